@@ -1,0 +1,36 @@
+-- `rows::put` meets its contract: one shifted by a place is the power of two with that place.
+use Prim.Native.Nat.{ℕ, _/_, _%_}
+use native.Mathlib.Omega.{arith}
+use mathlib.Core.Path.{ap}
+use lib.ListN.{getD, set}
+use lib.Bits.{bitOr}
+use Rattle.rows.specs.Bits.{setBit}
+use Rattle.rows.proofs.Bits.{shifted-one}
+use borrow.Author.Needs.{needs}
+use Rattle.rows.proofs.put.Statement.{statement}
+use Rattle.rows.proofs.put.Tie as tie
+
+cast-row : tie.Need-cast-row
+cast-row c = search needs
+
+shl-row : tie.Need-shl-row
+shl-row c = search needs
+
+slice-read-row : tie.Need-slice-read-row
+slice-read-row c = search needs
+
+slice-write-row : tie.Need-slice-write-row
+slice-write-row c = search needs
+
+same-length : tie.Need-same-length
+same-length c = search needs
+
+returns : tie.Need-returns
+unfolding setBit
+returns c =
+    let row = c .before .args .row .now in
+    let i = c .before .args .i in
+    ap (λ (x : ℕ). set row (i / 8) (bitOr (getD row (i / 8) 0) x)) (shifted-one (i % 8) (omega arith))
+
+pub put-spec : {M : Type 1} → statement M
+put-spec = tie.close (tie.spec cast-row shl-row slice-read-row slice-write-row same-length returns)

@@ -1,0 +1,134 @@
+// Bit rows: bit i of a row is bit i mod 8 of byte i div 8, bit 0 the lowest. Nothing here knows of catalogues.
+
+ghost use mathlib.Core.Path.{_≡_};
+ghost use Prim.Native.Nat.{_+_, _*_, _≤_, _<_};
+ghost use lib.ListN.{length};
+ghost use Rattle.rows.specs.Bits.{bit, setBit, clearBit, orRow, countBits, anyBit};
+ghost use Rattle.rows.specs.Next.{nextBit, NextBelow};
+
+// The lowest set bit from a given one on, or none.
+pub enum Found {
+    At(usize),
+    Nothing,
+}
+
+// Whether bit i is set; a bit past the end is clear.
+pub fn has(row: &[u8], i: usize) -> bool
+    ensures { λ r. ⌜ r ≡ bit (now (row .entry)) i ⌝ }
+{
+    let at = i / 8;
+    if at < row.len() {
+        (row[at] >> (i % 8)) % 2 == 1
+    } else {
+        false
+    }
+}
+
+// Sets bit i.
+pub fn put(row: &mut [u8], i: usize)
+    requires { ⌜ i < 8 * length (now row) ⌝ }
+    ensures { λ _. ⌜ now (row .exit) ≡ setBit (now (row .entry)) i ⌝ }
+{
+    row[i / 8] |= 1 << (i % 8);
+}
+
+// Clears bit i.
+pub fn clear(row: &mut [u8], i: usize)
+    requires { ⌜ i < 8 * length (now row) ⌝ }
+    ensures { λ _. ⌜ now (row .exit) ≡ clearBit (now (row .entry)) i ⌝ }
+{
+    row[i / 8] &= !(1 << (i % 8));
+}
+
+// Sets bit i of row r in a block of rows of w bytes: the row is lent on as its own part of the block.
+pub fn put_in_row(rows: &mut [u8], w: usize, r: usize, i: usize)
+    requires { ⌜ (r * w + w ≤ length (now rows)) × (i < 8 * w) ⌝ }
+    ensures { λ _. ⌜ now (rows .exit) ≡ setBit (now (rows .entry)) (8 * (r * w) + i) ⌝ }
+{
+    let start = r * w;
+    let end = start + w;
+    put(&mut rows[start..end], i);
+}
+
+// Sets in a row each bit that is set in another of the same length.
+pub fn or_into(row: &mut [u8], other: &[u8])
+    requires { ⌜ length (now other) ≡ length (now row) ⌝ }
+    ensures { λ _. ⌜ now (row .exit) ≡ orRow (now (row .entry)) (now (other .entry)) ⌝ }
+{
+    let mut i = 0;
+    while i < row.len() {
+        row[i] |= other[i];
+        i += 1;
+    }
+}
+
+// Whether any bit is set.
+pub fn any(row: &[u8]) -> bool
+    ensures { λ r. ⌜ r ≡ anyBit (now (row .entry)) ⌝ }
+{
+    let mut i = 0;
+    while i < row.len() {
+        if row[i] != 0 {
+            return true;
+        }
+        i += 1;
+    }
+    false
+}
+
+// How many bits are set.
+pub fn count(row: &[u8]) -> usize
+    requires { ⌜ length (now row) ≤ 1048576 ⌝ }
+    ensures { λ r. ⌜ r ≡ countBits (now (row .entry)) ⌝ }
+{
+    let mut total: usize = 0;
+    let mut k = 0;
+    while k < row.len() {
+        total += u8::count_ones(row[k]) as usize;
+        k += 1;
+    }
+    total
+}
+
+// The lowest set bit from a given one on, itself included; the given one may lie past the end.
+pub fn next(row: &[u8], from: usize) -> Found
+    requires { ⌜ length (now row) ≤ 1048576 ⌝ }
+    ensures { λ r. ⌜ r ≡ nextBit (now (row .entry)) from ⌝ }
+{
+    let at = from / 8;
+    if row.len() <= at {
+        return Found::Nothing;
+    }
+    let rest = row[at] >> (from % 8);
+    if rest != 0 {
+        return Found::At(from + u8::trailing_zeros(rest) as usize);
+    }
+    next_byte(row, at + 1)
+}
+
+// The lowest set bit from a given one on that is below n, or n where there is none.
+pub fn next_below(row: &[u8], n: usize, from: usize) -> usize
+    requires { ⌜ length (now row) ≤ 1048576 ⌝ }
+    ensures { λ r. ⌜ NextBelow (now (row .entry)) n from r ⌝ }
+{
+    match next(row, from) {
+        Found::At(i) => { if i < n { i } else { n } }
+        Found::Nothing => n,
+    }
+}
+
+// The lowest set bit from a given byte on.
+fn next_byte(row: &[u8], from: usize) -> Found
+    requires { ⌜ length (now row) ≤ 1048576 ⌝ }
+    ensures { λ r. ⌜ r ≡ nextBit (now (row .entry)) (8 * from) ⌝ }
+{
+    let mut at = from;
+    while at < row.len() {
+        let byte = row[at];
+        if byte != 0 {
+            return Found::At(8 * at + u8::trailing_zeros(byte) as usize);
+        }
+        at += 1;
+    }
+    Found::Nothing
+}
