@@ -1,0 +1,57 @@
+-- Laws of questions in order: what a yes and a no answer, what acceptance says of each, and that what follows waits for acceptance.
+use Prim.Native.Nat.{ℕ, _≤_, _<_}
+use native.Mathlib.Omega.{arith}
+use mathlib.Core.Path.{_≡_, refl, sym, ap, _∙_}
+use mathlib.Core.Bool.{Bool, true, false}
+use lib.Dec.{eqb}
+use borrow.Author.Tests.{eqb-true, eq-eqb, ne-eqb}
+use Rattle.catalogue.specs.Outcome.{Outcome, accepted, refused, ask, askEach, followed, First, firstFault}
+use Rattle.catalogue.proofs.FirstFault.{first-fault, first-is}
+
+-- One question.
+pub ask-yes : {t : Bool} (number at : ℕ) (rest : Outcome) → t ≡ true → ask t number at rest ≡ rest
+unfolding ask
+ask-yes number at rest e = rw e
+
+pub ask-no : {t : Bool} (number at : ℕ) (rest : Outcome) → t ≡ false → ask t number at rest ≡ refused number at
+unfolding ask
+ask-no number at rest e = rw e
+
+-- A question to each of n records: all pass, or record i is the first that fails. n and m are one number under two names.
+pub each-all : {ok : ℕ → Bool} {n : ℕ} (number : ℕ) (rest : Outcome) → ((k : ℕ) → k < n → ok k ≡ true) → askEach ok n number rest ≡ rest
+unfolding askEach
+each-all {ok} {n} number rest all =
+    let f : First ok n n = record { within = omega arith; passed = all; fails = λ l. absurd (omega arith) } in
+    ask-yes number _ rest (eq-eqb _ n (sym (first-is f)))
+
+pub each-yes : (ok : ℕ → Bool) {n m i : ℕ} (number : ℕ) (rest : Outcome) → n ≡ m → i ≡ firstFault ok n → n ≤ i → askEach ok m number rest ≡ rest
+each-yes ok {n} {m} {i} number rest c e l = each-all number rest (λ k p. first-fault ok n .passed k (omega arith))
+
+pub each-no : (ok : ℕ → Bool) {n m i : ℕ} (number : ℕ) (rest : Outcome) → n ≡ m → i ≡ firstFault ok n → i < n → askEach ok m number rest ≡ refused number i
+unfolding askEach
+each-no ok {n} {m} {i} number rest c e l =
+    let f : i ≡ firstFault ok m = e ∙ ap (firstFault ok) c in
+    ask-no number _ rest (ne-eqb _ m (λ q. absurd (omega arith))) ∙ ap (refused number) (sym f)
+
+-- What acceptance says: the answer was yes, and the rest is accepted.
+pub ask-accepted : (t : Bool) (number at : ℕ) (rest : Outcome) → ask t number at rest ≡ accepted → (t ≡ true) × (rest ≡ accepted)
+unfolding ask
+ask-accepted true number at rest e = (refl, e)
+ask-accepted false number at rest e = let z : _≡_ {A = ℕ} 0 1 = cc in absurd (omega arith)
+
+pub each-accepted : (ok : ℕ → Bool) (n number : ℕ) (rest : Outcome) → askEach ok n number rest ≡ accepted → ((k : ℕ) → k < n → ok k ≡ true) × (rest ≡ accepted)
+unfolding askEach
+each-accepted ok n number rest e =
+    let a : (eqb (firstFault ok n) n ≡ true) × (rest ≡ accepted) = ask-accepted _ number _ rest e in
+    let all : firstFault ok n ≡ n = eqb-true _ n (a .0) in
+    (λ k l. first-fault ok n .passed k (omega arith), a .1)
+
+-- What follows questions follows the last of them.
+pub followed-ask : (t : Bool) (number at : ℕ) (one rest : Outcome) → followed (ask t number at one) rest ≡ ask t number at (followed one rest)
+unfolding ask followed
+followed-ask true number at one rest = refl
+followed-ask false number at one rest = refl
+
+pub followed-each : (ok : ℕ → Bool) (n number : ℕ) (one rest : Outcome) → followed (askEach ok n number one) rest ≡ askEach ok n number (followed one rest)
+unfolding askEach
+followed-each ok n number one rest = followed-ask _ number _ one rest

@@ -1,0 +1,10 @@
+pub mod Words
+pub mod Header
+pub mod Records
+pub mod Values
+pub mod Outcome
+pub mod Checks
+pub mod WellFormed
+pub mod Sections
+pub mod Verdicts
+pub mod Examples
