@@ -1,0 +1,3 @@
+mod Held
+pub mod Copying
+pub mod Acceptance
