@@ -1,0 +1,3 @@
+pub mod ByteRows
+pub mod Seen
+pub mod RowBits
