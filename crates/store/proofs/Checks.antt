@@ -1,0 +1,35 @@
+-- What a yes to each of questions 10 to 14 says, and a no.
+use Prim.Native.Nat.{ℕ, _*_, _≤_, _<_}
+use mathlib.Core.Path.{_≡_}
+use mathlib.Core.Bool.{true, false}
+use mathlib.Core.List.{List}
+use borrow.Author.Tests.{leb-true, leb-false, le-leb}
+use Rattle.catalogue.specs.Header.{concepts}
+use Rattle.rules.specs.Axioms.{Axioms}
+use Rattle.store.specs.Parts.{used, workUsed}
+use Rattle.store.specs.Written.{axiomCount}
+use Rattle.store.specs.Checks.{storeFits, workFits, listFits, axiomsInLimit}
+
+pub store-long : (b : List ℕ) (long : ℕ) → storeFits b long ≡ true → used b ≤ long
+unfolding storeFits
+store-long b long e = leb-true _ _ e
+
+pub store-short : (b : List ℕ) (long : ℕ) → storeFits b long ≡ false → long < used b
+unfolding storeFits
+store-short b long e = leb-false _ _ e
+
+pub work-long : (b : List ℕ) (long : ℕ) → workFits b long ≡ true → workUsed b ≤ long
+unfolding workFits
+work-long b long e = leb-true _ _ e
+
+pub list-long : (b : List ℕ) (long : ℕ) → listFits b long ≡ true → 2 * concepts b ≤ long
+unfolding listFits
+list-long b long e = leb-true _ _ e
+
+pub axioms-few : (b : List ℕ) (F : Axioms) → axiomsInLimit b F ≡ true → axiomCount b F ≤ 4096
+unfolding axiomsInLimit
+axioms-few b F e = leb-true _ _ e
+
+pub few-axioms : (b : List ℕ) (F : Axioms) → axiomCount b F ≤ 4096 → axiomsInLimit b F ≡ true
+unfolding axiomsInLimit
+few-axioms b F l = le-leb _ _ l

@@ -1,0 +1,13 @@
+pub mod Rising
+pub mod Records
+pub mod Written
+pub mod WrittenBytes
+pub mod Sizes
+pub mod StoreRows
+pub mod Fresh
+pub mod Counts
+pub mod LastBytes
+pub mod SameRules
+pub mod AxiomCounts
+pub mod Checks
+pub mod Examples

@@ -1,0 +1,6 @@
+pub mod Parts
+pub mod Fresh
+pub mod Written
+pub mod Checks
+pub mod Work
+pub mod Examples
