@@ -1,0 +1,148 @@
+-- Examples 1, 3 and 4 of document 001.
+use mathlib.Core.Path.{_≡_, refl}
+use mathlib.Core.List.{[], _∷_}
+use Rattle.worked.specs.Catalogues.{example1, example4}
+use Rattle.rules.specs.Rules.{Closure}
+use Rattle.rules.specs.Changes.{OverDeleted}
+use Rattle.rules.specs.Axioms.{InRange, withdrawn}
+use Rattle.rules.proofs.Axioms.{catalogue-in-range, withdrawn-in-range}
+use Rattle.worked.specs.Entries.{Classified, Changed, Rows}
+use Rattle.worked.specs.Computed.{pairsOf, linksOf, rowsOf, overRowsOf, removedOf, returnedOf, gainedOf, brokenOf, gainingOf}
+use Rattle.worked.specs.Table.{example1Axioms, example3Axioms, example4Axioms, example4Axioms'}
+use Rattle.worked.proofs.Classified.{classified}
+use Rattle.worked.proofs.Changed.{changed, over-rows}
+use Rattle.worked.proofs.Accepted.{example1-well-formed, example4-well-formed}
+
+pub range1 : InRange example1 example1Axioms
+range1 = catalogue-in-range example1 example1-well-formed
+
+pub range3 : InRange example1 example3Axioms
+range3 = withdrawn-in-range example1 example1Axioms 6 2 range1
+
+pub range4 : InRange example4 example4Axioms
+range4 = catalogue-in-range example4 example4-well-formed
+
+pub range4' : InRange example4 example4Axioms'
+range4' = withdrawn-in-range example4 (withdrawn example4Axioms 1 2) 2 1 (withdrawn-in-range example4 example4Axioms 1 2 range4)
+
+example1-classified-pairs : pairsOf example1 example1Axioms ≡ 19
+unfolding pairsOf example1
+example1-classified-pairs = refl
+
+example1-classified-links : linksOf example1 example1Axioms ≡ 10
+unfolding linksOf example1
+example1-classified-links = refl
+
+example1-classified-rows : rowsOf example1 example1Axioms ≡ 29 ∷ 102 ∷ 4 ∷ 28 ∷ 20 ∷ 100 ∷ 68 ∷ []
+unfolding rowsOf example1
+example1-classified-rows = refl
+
+pub example1-classified : Classified example1 example1Axioms 19 10 (29 ∷ 102 ∷ 4 ∷ 28 ∷ 20 ∷ 100 ∷ 68 ∷ [])
+example1-classified = classified example1 example1Axioms example1-well-formed range1 19 10 (29 ∷ 102 ∷ 4 ∷ 28 ∷ 20 ∷ 100 ∷ 68 ∷ []) example1-classified-pairs example1-classified-links example1-classified-rows
+
+example3-changed-removed : removedOf example1 example1Axioms example3Axioms ≡ 9
+unfolding removedOf example1
+example3-changed-removed = refl
+
+example3-changed-returned : returnedOf example1 example1Axioms example3Axioms ≡ 0
+unfolding returnedOf example1
+example3-changed-returned = refl
+
+example3-changed-gained : gainedOf example1 example1Axioms example3Axioms ≡ 0
+unfolding gainedOf example1
+example3-changed-gained = refl
+
+example3-changed-broken : brokenOf example1 example1Axioms example3Axioms ≡ 1 ∷ 5 ∷ 6 ∷ []
+unfolding brokenOf example1
+example3-changed-broken = refl
+
+example3-changed-gaining : gainingOf example1 example1Axioms example3Axioms ≡ []
+unfolding gainingOf example1
+example3-changed-gaining = refl
+
+pub example3-changed : Changed example1 example1Axioms example3Axioms 9 0 0 (1 ∷ 5 ∷ 6 ∷ []) []
+example3-changed =
+    changed example1 example1Axioms example3Axioms example1-well-formed range1 range3 9 0 0 (1 ∷ 5 ∷ 6 ∷ []) [] example3-changed-removed example3-changed-returned example3-changed-gained example3-changed-broken example3-changed-gaining
+
+example3-over-rows : overRowsOf example1 example1Axioms example3Axioms ≡ 0 ∷ 68 ∷ 0 ∷ 0 ∷ 0 ∷ 68 ∷ 68 ∷ []
+unfolding overRowsOf example1
+example3-over-rows = refl
+
+pub example3-over : Rows (OverDeleted example1 example1Axioms example3Axioms (Closure example1 example1Axioms)) (0 ∷ 68 ∷ 0 ∷ 0 ∷ 0 ∷ 68 ∷ 68 ∷ [])
+example3-over = over-rows example1 example1Axioms example3Axioms example1-well-formed range1 range3 (0 ∷ 68 ∷ 0 ∷ 0 ∷ 0 ∷ 68 ∷ 68 ∷ []) example3-over-rows
+
+example3-classified-pairs : pairsOf example1 example3Axioms ≡ 13
+unfolding pairsOf example1
+example3-classified-pairs = refl
+
+example3-classified-links : linksOf example1 example3Axioms ≡ 7
+unfolding linksOf example1
+example3-classified-links = refl
+
+example3-classified-rows : rowsOf example1 example3Axioms ≡ 29 ∷ 34 ∷ 4 ∷ 28 ∷ 20 ∷ 32 ∷ 0 ∷ []
+unfolding rowsOf example1
+example3-classified-rows = refl
+
+pub example3-classified : Classified example1 example3Axioms 13 7 (29 ∷ 34 ∷ 4 ∷ 28 ∷ 20 ∷ 32 ∷ 0 ∷ [])
+example3-classified = classified example1 example3Axioms example1-well-formed range3 13 7 (29 ∷ 34 ∷ 4 ∷ 28 ∷ 20 ∷ 32 ∷ 0 ∷ []) example3-classified-pairs example3-classified-links example3-classified-rows
+
+example4-classified-pairs : pairsOf example4 example4Axioms ≡ 11
+unfolding pairsOf example4
+example4-classified-pairs = refl
+
+example4-classified-links : linksOf example4 example4Axioms ≡ 6
+unfolding linksOf example4
+example4-classified-links = refl
+
+example4-classified-rows : rowsOf example4 example4Axioms ≡ 25 ∷ 6 ∷ 6 ∷ 24 ∷ 24 ∷ []
+unfolding rowsOf example4
+example4-classified-rows = refl
+
+pub example4-classified : Classified example4 example4Axioms 11 6 (25 ∷ 6 ∷ 6 ∷ 24 ∷ 24 ∷ [])
+example4-classified = classified example4 example4Axioms example4-well-formed range4 11 6 (25 ∷ 6 ∷ 6 ∷ 24 ∷ 24 ∷ []) example4-classified-pairs example4-classified-links example4-classified-rows
+
+example4-changed-removed : removedOf example4 example4Axioms example4Axioms' ≡ 16
+unfolding removedOf example4
+example4-changed-removed = refl
+
+example4-changed-returned : returnedOf example4 example4Axioms example4Axioms' ≡ 8
+unfolding returnedOf example4
+example4-changed-returned = refl
+
+example4-changed-gained : gainedOf example4 example4Axioms example4Axioms' ≡ 0
+unfolding gainedOf example4
+example4-changed-gained = refl
+
+example4-changed-broken : brokenOf example4 example4Axioms example4Axioms' ≡ 0 ∷ 1 ∷ 2 ∷ 3 ∷ 4 ∷ []
+unfolding brokenOf example4
+example4-changed-broken = refl
+
+example4-changed-gaining : gainingOf example4 example4Axioms example4Axioms' ≡ []
+unfolding gainingOf example4
+example4-changed-gaining = refl
+
+pub example4-changed : Changed example4 example4Axioms example4Axioms' 16 8 0 (0 ∷ 1 ∷ 2 ∷ 3 ∷ 4 ∷ []) []
+example4-changed =
+    changed example4 example4Axioms example4Axioms' example4-well-formed range4 range4' 16 8 0 (0 ∷ 1 ∷ 2 ∷ 3 ∷ 4 ∷ []) [] example4-changed-removed example4-changed-returned example4-changed-gained example4-changed-broken example4-changed-gaining
+
+example4-over-rows : overRowsOf example4 example4Axioms example4Axioms' ≡ 24 ∷ 6 ∷ 6 ∷ 24 ∷ 24 ∷ []
+unfolding overRowsOf example4
+example4-over-rows = refl
+
+pub example4-over : Rows (OverDeleted example4 example4Axioms example4Axioms' (Closure example4 example4Axioms)) (24 ∷ 6 ∷ 6 ∷ 24 ∷ 24 ∷ [])
+example4-over = over-rows example4 example4Axioms example4Axioms' example4-well-formed range4 range4' (24 ∷ 6 ∷ 6 ∷ 24 ∷ 24 ∷ []) example4-over-rows
+
+example4-left-classified-pairs : pairsOf example4 example4Axioms' ≡ 6
+unfolding pairsOf example4
+example4-left-classified-pairs = refl
+
+example4-left-classified-links : linksOf example4 example4Axioms' ≡ 3
+unfolding linksOf example4
+example4-left-classified-links = refl
+
+example4-left-classified-rows : rowsOf example4 example4Axioms' ≡ 9 ∷ 2 ∷ 4 ∷ 8 ∷ 16 ∷ []
+unfolding rowsOf example4
+example4-left-classified-rows = refl
+
+pub example4-left-classified : Classified example4 example4Axioms' 6 3 (9 ∷ 2 ∷ 4 ∷ 8 ∷ 16 ∷ [])
+example4-left-classified = classified example4 example4Axioms' example4-well-formed range4' 6 3 (9 ∷ 2 ∷ 4 ∷ 8 ∷ 16 ∷ []) example4-left-classified-pairs example4-left-classified-links example4-left-classified-rows

@@ -1,0 +1,10 @@
+pub mod Lists
+pub mod Classified
+pub mod Changed
+pub mod Accepted
+pub mod W1
+pub mod W3
+pub mod W6
+pub mod W7
+pub mod Examples
+pub mod Worked

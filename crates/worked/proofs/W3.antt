@@ -1,0 +1,86 @@
+-- W3 to W5: withdraw (1,5), and add it back.
+use mathlib.Core.Path.{_≡_, refl}
+use mathlib.Core.List.{[], _∷_}
+use Rattle.catalogue.specs.Examples.{w1}
+use lib.Dec.{lit<}
+use Rattle.catalogue.specs.Words.{word}
+use Rattle.catalogue.specs.Header.{concepts}
+use Rattle.rules.specs.Axioms.{InRange}
+use Rattle.rules.proofs.Axioms.{added-in-range, withdrawn-in-range}
+use Rattle.worked.specs.Entries.{Classified, Changed}
+use Rattle.worked.specs.Computed.{pairsOf, linksOf, rowsOf, removedOf, returnedOf, gainedOf, brokenOf, gainingOf}
+use Rattle.worked.specs.Table.{axioms1, axioms3, axioms5}
+use Rattle.worked.proofs.Classified.{classified}
+use Rattle.worked.proofs.Changed.{changed}
+use Rattle.catalogue.proofs.Examples.{w1-well-formed}
+use Rattle.worked.proofs.W1.{range1}
+
+pub range3 : InRange w1 axioms3
+range3 = withdrawn-in-range w1 axioms1 1 5 range1
+
+pub range5 : InRange w1 axioms5
+unfolding w1 word concepts
+range5 = added-in-range w1 axioms3 1 5 range3 (lit< tt) (lit< tt)
+
+w3-change-removed : removedOf w1 axioms1 axioms3 ≡ 10
+unfolding removedOf w1
+w3-change-removed = refl
+
+w3-change-returned : returnedOf w1 axioms1 axioms3 ≡ 0
+unfolding returnedOf w1
+w3-change-returned = refl
+
+w3-change-gained : gainedOf w1 axioms1 axioms3 ≡ 0
+unfolding gainedOf w1
+w3-change-gained = refl
+
+w3-change-broken : brokenOf w1 axioms1 axioms3 ≡ 0 ∷ 1 ∷ 4 ∷ 5 ∷ []
+unfolding brokenOf w1
+w3-change-broken = refl
+
+w3-change-gaining : gainingOf w1 axioms1 axioms3 ≡ []
+unfolding gainingOf w1
+w3-change-gaining = refl
+
+pub w3-change : Changed w1 axioms1 axioms3 10 0 0 (0 ∷ 1 ∷ 4 ∷ 5 ∷ []) []
+w3-change =
+    changed w1 axioms1 axioms3 w1-well-formed range1 range3 10 0 0 (0 ∷ 1 ∷ 4 ∷ 5 ∷ []) [] w3-change-removed w3-change-returned w3-change-gained w3-change-broken w3-change-gaining
+
+w3-left-pairs : pairsOf w1 axioms3 ≡ 8
+unfolding pairsOf w1
+w3-left-pairs = refl
+
+w3-left-links : linksOf w1 axioms3 ≡ 3
+unfolding linksOf w1
+w3-left-links = refl
+
+w3-left-rows : rowsOf w1 axioms3 ≡ 17 ∷ 2 ∷ 4 ∷ 8 ∷ 16 ∷ 0 ∷ 72 ∷ []
+unfolding rowsOf w1
+w3-left-rows = refl
+
+pub w3-left : Classified w1 axioms3 8 3 (17 ∷ 2 ∷ 4 ∷ 8 ∷ 16 ∷ 0 ∷ 72 ∷ [])
+w3-left = classified w1 axioms3 w1-well-formed range3 8 3 (17 ∷ 2 ∷ 4 ∷ 8 ∷ 16 ∷ 0 ∷ 72 ∷ []) w3-left-pairs w3-left-links w3-left-rows
+
+w5-change-removed : removedOf w1 axioms3 axioms5 ≡ 0
+unfolding removedOf w1
+w5-change-removed = refl
+
+w5-change-returned : returnedOf w1 axioms3 axioms5 ≡ 0
+unfolding returnedOf w1
+w5-change-returned = refl
+
+w5-change-gained : gainedOf w1 axioms3 axioms5 ≡ 10
+unfolding gainedOf w1
+w5-change-gained = refl
+
+w5-change-broken : brokenOf w1 axioms3 axioms5 ≡ []
+unfolding brokenOf w1
+w5-change-broken = refl
+
+w5-change-gaining : gainingOf w1 axioms3 axioms5 ≡ 0 ∷ 1 ∷ 4 ∷ 5 ∷ []
+unfolding gainingOf w1
+w5-change-gaining = refl
+
+pub w5-change : Changed w1 axioms3 axioms5 0 0 10 [] (0 ∷ 1 ∷ 4 ∷ 5 ∷ [])
+w5-change =
+    changed w1 axioms3 axioms5 w1-well-formed range3 range5 0 0 10 [] (0 ∷ 1 ∷ 4 ∷ 5 ∷ []) w5-change-removed w5-change-returned w5-change-gained w5-change-broken w5-change-gaining

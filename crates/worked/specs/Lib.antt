@@ -1,0 +1,4 @@
+pub mod Catalogues
+pub mod Entries
+pub mod Computed
+pub mod Table

@@ -1,0 +1,109 @@
+-- The worked table (document 01, Examples; document 001, Examples 1, 3 and 4), as far as it speaks of catalogues, sets, counts, touched
+-- concepts and stores' sizes and spare bits.
+use Prim.Native.Nat.{ℕ, _+_, _*_}
+use mathlib.Core.Bool.{true}
+use mathlib.Core.Path.{_≡_}
+use mathlib.Core.Logic.{_↔_}
+use mathlib.Core.List.{List, [], _∷_, map}
+use lib.ListN.{length, replicate}
+use Rattle.rows.specs.Bits.{setBit}
+use Rattle.catalogue.specs.WellFormed.{WellFormed}
+use Rattle.catalogue.specs.Header.{conceptsAt, inclusionsAt, compositionsAt, axiomsAt}
+use Rattle.catalogue.specs.Outcome.{accepted, refused}
+use Rattle.catalogue.specs.Checks.{checked}
+use Rattle.catalogue.specs.Examples.{w1, headerAlone}
+use Rattle.rules.specs.Axioms.{Axioms, catalogueAxioms, added, withdrawn}
+use Rattle.rules.specs.Occurrence.{Occurs}
+use Rattle.rules.specs.Rules.{Expression, pair, Closure}
+use Rattle.rules.specs.Changes.{OverDeleted, NewSet}
+use Rattle.store.specs.Parts.{used, workUsed, spareClear}
+use Rattle.store.specs.Checks.{askSpare}
+use Rattle.store.specs.Written.{rising}
+use Rattle.store.specs.Examples.{eightConcepts}
+use Rattle.worked.specs.Catalogues.{w7, example1, example4}
+use Rattle.worked.specs.Entries.{none, Rows, Classified, Changed}
+
+-- W1's axioms; without (1,5); with that added back; with (0,3) as well; and that without (1,5).
+abbrev pub axioms1 : Axioms
+axioms1 = catalogueAxioms w1
+
+abbrev pub axioms3 : Axioms
+axioms3 = withdrawn axioms1 1 5
+
+abbrev pub axioms5 : Axioms
+axioms5 = added axioms3 1 5
+
+abbrev pub axioms6 : Axioms
+axioms6 = added axioms1 0 3
+
+abbrev pub axioms6' : Axioms
+axioms6' = withdrawn axioms6 1 5
+
+-- W7's axioms, and without (0,1).
+abbrev pub axioms7 : Axioms
+axioms7 = catalogueAxioms w7
+
+abbrev pub axioms7' : Axioms
+axioms7' = withdrawn axioms7 0 1
+
+-- Example 1, and Example 3's deletion of ∃S.C⊑C.
+abbrev pub example1Axioms : Axioms
+example1Axioms = catalogueAxioms example1
+
+abbrev pub example3Axioms : Axioms
+example3Axioms = withdrawn example1Axioms 6 2
+
+-- Example 4, and its deletion of B⊑C and C⊑B.
+abbrev pub example4Axioms : Axioms
+example4Axioms = catalogueAxioms example4
+
+abbrev pub example4Axioms' : Axioms
+example4Axioms' = withdrawn (withdrawn example4Axioms 1 2) 2 1
+
+pub record Worked : Type 0 where
+  -- W1's file has 80 bytes, offsets 20, 62, 62, 68, and is accepted.
+  pub W1-bytes : (length w1 ≡ 80) × (conceptsAt w1 ≡ 20) × (inclusionsAt w1 ≡ 62) × (compositionsAt w1 ≡ 62) × (axiomsAt w1 ≡ 68)
+  pub W1-accepted : checked w1 ≡ accepted
+  -- The store has 35 bytes, and the work space 28.
+  pub W1-store : (used w1 ≡ 35) × (workUsed w1 ≡ 28)
+  -- W1: 14 pairs, 7 links; pair rows 89, 34, 4, 8, 88, 32, 72.
+  pub W1 : Classified w1 axioms1 14 7 (89 ∷ 34 ∷ 4 ∷ 8 ∷ 88 ∷ 32 ∷ 72 ∷ [])
+  -- W2: (0,3) yes; (3,0) no; both occur.
+  pub W2-yes : Closure w1 axioms1 (pair 0 3)
+  pub W2-no : ¬ (Closure w1 axioms1 (pair 3 0))
+  pub W2-occur : Occurs w1 axioms1 0 × Occurs w1 axioms1 3
+  -- W3: withdraw (1,5): removed 10, returned 0, gained 0; touched 0, 1, 4, 5; 8 pairs, 3 links.
+  pub W3 : Changed w1 axioms1 axioms3 10 0 0 (0 ∷ 1 ∷ 4 ∷ 5 ∷ []) []
+  pub W3-left : Classified w1 axioms3 8 3 (17 ∷ 2 ∷ 4 ∷ 8 ∷ 16 ∷ 0 ∷ 72 ∷ [])
+  -- W4: then 5 does not occur.
+  pub W4 : ¬ (Occurs w1 axioms3 5)
+  -- W5: (1,5) added back gives W1's set.
+  pub W5 : Changed w1 axioms3 axioms5 0 0 10 [] (0 ∷ 1 ∷ 4 ∷ 5 ∷ [])
+  pub W5-back : (axioms5 ≡ axioms1) × ((e : Expression) → NewSet w1 axioms3 axioms5 (Closure w1 axioms3) e ↔ Closure w1 axioms1 e)
+  -- W6: with (0,3) also in force, W3 has removed 10, returned 1.
+  pub W6 : Changed w1 axioms6 axioms6' 10 1 0 (0 ∷ 1 ∷ 4 ∷ 5 ∷ []) []
+  -- W7: 7 pairs; withdraw (0,1): removed 3, touched 0, 4 pairs left.
+  pub W7 : Classified w7 axioms7 7 0 (7 ∷ 6 ∷ 6 ∷ [])
+  pub W7-change : Changed w7 axioms7 axioms7' 3 0 0 (0 ∷ []) []
+  pub W7-left : Classified w7 axioms7' 4 0 (0 ∷ 6 ∷ 6 ∷ [])
+  -- W8: no axioms: empty sets, and nothing occurs.
+  pub W8 : (b : List ℕ) → WellFormed b → (e : Expression) → ¬ (Closure b none e)
+  pub W8-occur : (b : List ℕ) (c : ℕ) → ¬ (Occurs b none c)
+  -- W9: n = 7 with bit 7 of any row set: 13; n = 8: no spare bit, whatever the store.
+  pub W9 : map (λ (r : ℕ). askSpare (spareClear w1 (setBit (replicate 35 0) (8 * r + 7))) accepted) (rising (λ (r : ℕ). true) 35) ≡ replicate 35 (refused 13 0)
+  pub W9-none : (store : List ℕ) → askSpare (spareClear eightConcepts store) accepted ≡ accepted
+  -- 19 bytes: 1. n 512 passes question 3, and a header alone is then refused by 4; 513: 3.
+  pub bytes-19 : (b : List ℕ) → length b ≡ 19 → checked b ≡ refused 1 0
+  pub n-512 : checked (headerAlone 512 16 64 64 4096) ≡ refused 4 0
+  pub n-513 : checked (headerAlone 513 16 64 64 4096) ≡ refused 3 0
+  -- Example 1: the nineteen subsumptions, and with the links that rule 6 splits off.
+  pub example1-closure : Classified example1 example1Axioms 19 10 (29 ∷ 102 ∷ 4 ∷ 28 ∷ 20 ∷ 100 ∷ 68 ∷ [])
+  -- Example 3: (7), (12) and (16) to (19) are deleted, with three links; broken are B, ∃S.A and ∃S.C; left are (1) to (6), (8) to (11) and (13) to (15).
+  pub example3-change : Changed example1 example1Axioms example3Axioms 9 0 0 (1 ∷ 5 ∷ 6 ∷ []) []
+  pub example3-deleted : Rows (OverDeleted example1 example1Axioms example3Axioms (Closure example1 example1Axioms)) (0 ∷ 68 ∷ 0 ∷ 0 ∷ 0 ∷ 68 ∷ 68 ∷ [])
+  pub example3-left : Classified example1 example3Axioms 13 7 (29 ∷ 34 ∷ 4 ∷ 28 ∷ 20 ∷ 32 ∷ 0 ∷ [])
+  -- Example 4: ∃R.B⊑∃R.C and A⊑∃R.C, (28) and (30), are deleted and do not come back.
+  pub example4-closure : Classified example4 example4Axioms 11 6 (25 ∷ 6 ∷ 6 ∷ 24 ∷ 24 ∷ [])
+  pub example4-change : Changed example4 example4Axioms example4Axioms' 16 8 0 (0 ∷ 1 ∷ 2 ∷ 3 ∷ 4 ∷ []) []
+  pub example4-deleted : Rows (OverDeleted example4 example4Axioms example4Axioms' (Closure example4 example4Axioms)) (24 ∷ 6 ∷ 6 ∷ 24 ∷ 24 ∷ [])
+  pub example4-left : Classified example4 example4Axioms' 6 3 (9 ∷ 2 ∷ 4 ∷ 8 ∷ 16 ∷ [])

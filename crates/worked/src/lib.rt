@@ -1,0 +1,1 @@
+// The worked examples, proved about the definitions.
