@@ -1,0 +1,21 @@
+-- The answers of lookup, listing and row: each enum's cases with the paper's number and values.
+use Prim.Native.Nat.{ℕ}
+use mathlib.Core.Bool.{Bool, true, false}
+use mathlib.Core.List.{List, [], _∷_}
+use Rattle.catalogue.specs.Outcome.{Outcome, accepted, refused}
+use Rattle.rules.specs.Rules.{pair}
+use Rattle.store.specs.Parts.{held}
+use Rattle.lookups.specs.Checks.{readChecks}
+use Rattle.lookups.specs.declared.pairs.Looked.{Looked}
+use Rattle.lookups.specs.declared.pairs.Looked.the-variants.{Yes, No, Refused}
+
+-- `Yes`: every question is answered yes, and the store has C⊑D. `No`: every question is answered yes, and it has not.
+-- `Refused n r`: question n is answered no, and record r is at fault (0 where none is named).
+abbrev pub looked : Outcome → Bool → Looked
+looked accepted true = Yes
+looked accepted false = No
+looked (refused number at) has = Refused number at
+
+-- Lookup of (C, D).
+unfoldable pub lookedUp : (b : List ℕ) (c d : ℕ) (store : List ℕ) → Looked
+lookedUp b c d store = looked (readChecks b (c ∷ d ∷ []) store) (held b store (pair c d))

@@ -1,0 +1,6 @@
+pub mod Checks
+pub mod Answers
+pub mod Listings
+pub mod Rows
+pub mod Meaning
+pub mod Examples

@@ -1,0 +1,57 @@
+// A concept's row, handed out as a part of the caller's store.
+ghost use mathlib.Core.Path.{_≡_};
+ghost use Rattle.lookups.specs.Rows.{rowAnswer, HandsOut};
+use super::checks::check_reading;
+use super::pairs::pair_offset;
+use blocks::Shape;
+use catalogue::Verdict;
+
+// What a row's call answers: the byte of the store at which the row begins and how many it has, or the refusal.
+pub enum Handed {
+    Row(usize, usize),
+    Refused(usize, usize),
+}
+
+// Where the row of concept c stands.
+pub fn row_answer(b: &[u8], c: usize, store: &[u8]) -> Handed
+    ensures { λ r. ⌜ r ≡ rowAnswer (now (b .entry)) c (now (store .entry)) ⌝ }
+{
+    let verdict = check_reading(b, c, c, store);
+    match verdict {
+        Verdict::Refused(number, at) => Handed::Refused(number, at),
+        Verdict::Accepted => {
+            let s = Shape::of(b);
+            let w = s.width;
+            Handed::Row(pair_offset(b, c), w)
+        }
+    }
+}
+
+// The row of concept c, as that part of the store; refused, the empty part.
+pub fn row<'a>(b: &[u8], c: usize, store: &'a [u8]) -> &'a [u8]
+    ensures { λ r. ⌜ HandsOut (now (b .entry)) c (store .entry) r ⌝ }
+{
+    let answer = row_answer(b, c, store);
+    match answer {
+        Handed::Row(offset, width) => {
+            let end = offset + width;
+            &store[offset..end]
+        }
+        Handed::Refused(_, _) => &store[0..0],
+    }
+}
+
+// A row asked for: the part, and the answer beside it.
+pub struct RowAnswer<'a> {
+    pub part: &'a [u8],
+    pub answer: Handed,
+}
+
+// The row of concept c as that part of the store, beside the answer.
+pub fn row_and_answer<'a, 'b>(b: &'b [u8], c: usize, store: &'a [u8]) -> RowAnswer<'a>
+    ensures { λ r. ⌜ HandsOut (now (b .entry)) c (store .entry) (r .part) × (r .answer ≡ rowAnswer (now (b .entry)) c (now (store .entry))) ⌝ }
+{
+    let part = row(b, c, store);
+    let answer = row_answer(b, c, store);
+    RowAnswer { part, answer }
+}

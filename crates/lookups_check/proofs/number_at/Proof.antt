@@ -1,0 +1,16 @@
+-- `number_at`: two bytes make a number of sixteen bits.
+use Prim.Native.Nat.{ℕ, _<_}
+use mathlib.Core.Path.{sym, subst}
+use Rattle.catalogue.proofs.Words.{word-below}
+use borrow.Author.Needs.{needs}
+use Rattle.lookups_check.proofs.number_at.Statement.{statement}
+use Rattle.lookups_check.proofs.number_at.Tie as tie
+
+word-requires : tie.Need-word-requires
+word-requires c κs = search needs
+
+returns : tie.Need-returns
+returns c = subst (λ (n : ℕ). n < 65536) (sym (c .word .ensures)) (word-below _ (c .before .shared-slice-known .given) _)
+
+pub number-at-spec : {M : Type 1} → statement M
+number-at-spec = tie.close (tie.spec word-requires returns)

@@ -1,0 +1,149 @@
+// Runs lookup, listing and row on the cases of its input, and writes what each answers.
+// A case: the call (0 lookup, 1 listing, 2 row), two concept numbers, the lengths of the list, the catalogue and the store that are lent, two bytes
+// each, low byte first; then the catalogue and the store. The input has W1, W4, W8, W9 and W10 of document 01, a case for each refusal, and others.
+ghost use Prim.Native.Nat.{_+_, _≤_, _<_};
+ghost use lib.ListN.{length};
+use libc::STDIN_FILENO;
+use libc::STDOUT_FILENO;
+use lookups::Handed;
+use lookups::Listed;
+use lookups::Looked;
+
+// The number at a byte of the input.
+fn number_at(text: &[u8], at: usize) -> usize
+    requires { ⌜ at + 1 < length (now text) ⌝ }
+    ensures { λ r. ⌜ r < 65536 ⌝ }
+{
+    catalogue::word(text, at)
+}
+
+// Fills a list with bytes that no entry has, so that what is written shows.
+fn fill(list: &mut [u8]) {
+    let mut i = 0;
+    while i < list.len() {
+        list[i] = 195;
+        i += 1;
+    }
+}
+
+// Writes bytes in hexadecimal digits.
+fn say_digits(bytes: &[u8]) {
+    let mut i = 0;
+    while i < bytes.len() {
+        io::print_hex(STDOUT_FILENO, bytes[i] as u64, 2);
+        i += 1;
+    }
+}
+
+// Writes a space and bytes, and ends the line.
+fn say_bytes(bytes: &[u8]) {
+    io::write_all(STDOUT_FILENO, b" ");
+    say_digits(bytes);
+    io::write_all(STDOUT_FILENO, b"\n");
+}
+
+// Writes a word and a number.
+fn say(word: &[u8], number: usize) {
+    io::write_all(STDOUT_FILENO, word);
+    io::print_decimal(STDOUT_FILENO, number as u64);
+}
+
+// Writes a refusal.
+fn say_refused(number: usize, record: usize) {
+    say(b"refused ", number);
+    say(b" ", record);
+}
+
+// Answers a lookup.
+fn run_lookup(b: &[u8], c: usize, d: usize, store: &[u8]) {
+    let answer = lookups::lookup(b, c, d, store);
+    match answer {
+        Looked::Yes => {
+            io::write_all(STDOUT_FILENO, b"yes\n");
+        }
+        Looked::No => {
+            io::write_all(STDOUT_FILENO, b"no\n");
+        }
+        Looked::Refused(number, record) => {
+            say_refused(number, record);
+            io::write_all(STDOUT_FILENO, b"\n");
+        }
+    }
+}
+
+// Answers a listing, with the whole list as it is left.
+fn run_listing(b: &[u8], d: usize, store: &[u8], list: &mut [u8]) {
+    fill(list);
+    let answer = lookups::listing(b, d, store, list);
+    match answer {
+        Listed::Count(count) => say(b"listed ", count),
+        Listed::Refused(number, record) => say_refused(number, record),
+    }
+    say_bytes(list);
+}
+
+// Answers a row, with the bytes of the part.
+fn run_row(b: &[u8], c: usize, store: &[u8]) {
+    let answer = lookups::row_answer(b, c, store);
+    match answer {
+        Handed::Row(offset, width) => {
+            say(b"row ", offset);
+            say(b" ", width);
+        }
+        Handed::Refused(number, record) => say_refused(number, record),
+    }
+    say_bytes(lookups::row(b, c, store));
+}
+
+// Runs one call.
+fn run(call: usize, b: &[u8], c: usize, d: usize, store: &[u8], list: &mut [u8]) {
+    match call {
+        0 => run_lookup(b, c, d, store),
+        1 => run_listing(b, d, store, list),
+        _ => run_row(b, c, store),
+    }
+}
+
+// Runs the case at a byte of the input, if the input has all of it, and says where the next one starts.
+fn run_case(text: &[u8], at: usize, list: &mut [u8]) -> usize
+    requires { ⌜ at + 12 ≤ length (now text) ⌝ }
+    ensures { λ r. ⌜ (at < r) × (r ≤ length (now (text .entry))) ⌝ }
+{
+    let call = number_at(text, at);
+    let c = number_at(text, at + 2);
+    let d = number_at(text, at + 4);
+    let long = number_at(text, at + 6);
+    let start = at + 12;
+    let middle = start + number_at(text, at + 8);
+    let end = middle + number_at(text, at + 10);
+    if text.len() < end {
+        return text.len();
+    }
+    if list.len() < long {
+        return end;
+    }
+    run(
+        call,
+        &text[start..middle],
+        c,
+        d,
+        &text[middle..end],
+        &mut list[..long],
+    );
+    end
+}
+
+// Runs the cases one after the other.
+fn run_cases(text: &[u8], list: &mut [u8]) {
+    let mut at = 0;
+    while at + 12 <= text.len() {
+        at = run_case(text, at, list);
+    }
+}
+
+fn main() {
+    let mut text = io::large_buffer();
+    let n = io::read_full(STDIN_FILENO, &mut text);
+    let mut list = io::buffer();
+    run_cases(&text[..n], &mut list);
+}

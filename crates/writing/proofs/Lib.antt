@@ -1,0 +1,6 @@
+pub mod Counted
+pub mod Recording
+pub mod Tabling
+pub mod Whole
+pub mod Order
+pub mod Unique
