@@ -1,0 +1,29 @@
+//! A classifier for EL+ catalogues over plain sets, to compare other
+//! classifiers with. It is simple rather than fast, and shares no code with
+//! what it is compared to.
+//!
+//! - `catalogue`: the file format and the checks on it (questions 1 to 9)
+//! - `rules`: expressions, inferences, role reach, occurrence
+//! - `application`: finding the inferences that apply
+//! - `rounds`: the sets of the papers, word for word, for small catalogues
+//! - `expressions`: a set of pairs and links, indexed by partition
+//! - `saturation`: the least set, by a worklist
+//! - `change`: over-deletion, repair and addition
+//! - `store`: the bytes of a store
+//! - `calls`: the public calls, each with its checks in order
+//! - `listing`: the text of the listing program
+//! - `examples`: built-in catalogues
+//! - `expected`: expected outputs of programs
+
+pub mod application;
+pub mod calls;
+pub mod catalogue;
+pub mod change;
+pub mod examples;
+pub mod expected;
+pub mod expressions;
+pub mod listing;
+pub mod rounds;
+pub mod rules;
+pub mod saturation;
+pub mod store;

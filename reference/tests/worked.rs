@@ -1,0 +1,315 @@
+//! The worked examples W1 to W10 of document 01, and those beside them.
+
+use reference::calls::{self, Changed, Counts};
+use reference::catalogue::{Catalogue, Concept, Refusal};
+use reference::{examples, listing};
+
+/// A catalogue, and buffers for calls on it.
+struct Buffers {
+    catalogue: Vec<u8>,
+    store: Vec<u8>,
+    work: Vec<u8>,
+    list: Vec<u8>,
+}
+
+const FILL: u8 = 0xa5;
+
+impl Buffers {
+    /// Classified, on buffers of any content, with `spare` bytes past each
+    /// used part.
+    fn new(catalogue: &Catalogue, spare: usize) -> (Buffers, Counts) {
+        let n = catalogue.concepts.len();
+        let rows = n * n.div_ceil(8);
+        let mut lent = Buffers {
+            catalogue: catalogue.bytes(),
+            store: vec![FILL; rows * (catalogue.roles + 2) + spare],
+            work: vec![FILL; rows * (catalogue.roles + 1) + spare],
+            list: vec![FILL; 2 * n + spare],
+        };
+        let counts = calls::classify(&lent.catalogue, &mut lent.store, &mut lent.work);
+        (lent, counts.expect("an accepted classify"))
+    }
+
+    fn lookup(&self, c: usize, d: usize) -> Result<bool, Refusal> {
+        calls::lookup(&self.catalogue, c, d, &self.store)
+    }
+
+    fn add(&mut self, left: usize, right: usize) -> Result<Changed, Refusal> {
+        let Buffers {
+            catalogue,
+            store,
+            work,
+            list,
+        } = self;
+        calls::add(catalogue, (left, right), store, work, list)
+    }
+
+    fn withdraw(&mut self, left: usize, right: usize) -> Result<Changed, Refusal> {
+        let Buffers {
+            catalogue,
+            store,
+            work,
+            list,
+        } = self;
+        calls::withdraw(catalogue, (left, right), store, work, list)
+    }
+
+    /// Bits set in the store from this byte up to that one.
+    fn marks(&self, from: usize, to: usize) -> u32 {
+        self.store[from..to]
+            .iter()
+            .map(|byte| byte.count_ones())
+            .sum()
+    }
+}
+
+fn refusal(number: usize) -> Refusal {
+    Refusal { number, record: 0 }
+}
+
+#[test]
+fn w1_classify() {
+    let catalogue = examples::w1();
+    let bytes = catalogue.bytes();
+    assert_eq!(bytes.len(), 80);
+    assert_eq!(bytes[12..20], [20, 0, 62, 0, 62, 0, 68, 0]);
+    assert_eq!(Catalogue::read(&bytes), Ok(catalogue.clone()));
+    let (lent, counts) = Buffers::new(&catalogue, 0);
+    assert_eq!(lent.store.len(), 35);
+    assert_eq!(
+        counts,
+        Counts {
+            pairs: 14,
+            links: 7
+        }
+    );
+    assert_eq!(lent.store[7..14], [89, 34, 4, 8, 88, 32, 72]);
+    assert!(lent.work.iter().all(|&byte| byte == 0));
+}
+
+#[test]
+fn w2_lookup() {
+    let (lent, _) = Buffers::new(&examples::w1(), 0);
+    assert_eq!(lent.lookup(0, 3), Ok(true));
+    assert_eq!(lent.lookup(3, 0), Ok(false));
+}
+
+#[test]
+fn w3_to_w5_withdraw_and_add_back() {
+    let (mut lent, _) = Buffers::new(&examples::w1(), 3);
+    let before = lent.store.clone();
+
+    let withdrawn = Changed {
+        removed: 10,
+        returned: 0,
+        gained: 0,
+        touched: 4,
+    };
+    assert_eq!(lent.withdraw(1, 5), Ok(withdrawn));
+    assert_eq!(lent.list[..8], [0, 0, 1, 0, 4, 0, 5, 0]);
+    assert!(lent.list[8..].iter().all(|&byte| byte == FILL));
+    assert_eq!((lent.marks(7, 14), lent.marks(14, 35)), (8, 3));
+    assert_eq!(lent.store[35..], [FILL; 3]);
+    assert_eq!(lent.work[..28], [0; 28]);
+    assert_eq!(lent.work[28..], [FILL; 3]);
+
+    assert_eq!(lent.lookup(5, 5), Err(refusal(19)));
+    assert_eq!(lent.lookup(0, 5), Err(refusal(19)));
+    assert_eq!(lent.lookup(5, 0), Err(refusal(19)));
+
+    let added = Changed {
+        removed: 0,
+        returned: 0,
+        gained: 10,
+        touched: 4,
+    };
+    assert_eq!(lent.add(1, 5), Ok(added));
+    assert_eq!(lent.store, before);
+}
+
+#[test]
+fn w6_a_pair_returns() {
+    let (mut lent, _) = Buffers::new(&examples::w6(), 0);
+    let changed = Changed {
+        removed: 10,
+        returned: 1,
+        gained: 0,
+        touched: 4,
+    };
+    assert_eq!(lent.withdraw(1, 5), Ok(changed));
+    assert_eq!(lent.lookup(0, 3), Ok(true));
+}
+
+#[test]
+fn w7_a_cycle_does_not_hold_itself_up() {
+    let (mut lent, counts) = Buffers::new(&examples::w7(), 0);
+    assert_eq!(counts, Counts { pairs: 7, links: 0 });
+    let changed = Changed {
+        removed: 3,
+        returned: 0,
+        gained: 0,
+        touched: 1,
+    };
+    assert_eq!(lent.withdraw(0, 1), Ok(changed));
+    assert_eq!(lent.list[..2], [0, 0]);
+    assert_eq!(lent.marks(3, 6), 4);
+}
+
+#[test]
+fn w8_no_axioms() {
+    let (lent, counts) = Buffers::new(&examples::w8(), 0);
+    assert_eq!(counts, Counts { pairs: 0, links: 0 });
+    assert!(lent.store.iter().all(|&byte| byte == 0));
+    for c in 0..7 {
+        for d in 0..7 {
+            assert_eq!(lent.lookup(c, d), Err(refusal(19)));
+        }
+    }
+}
+
+#[test]
+fn w9_spare_bits() {
+    let (mut seven, _) = Buffers::new(&examples::w1(), 1);
+    for at in 0..35 {
+        seven.store[at] ^= 128;
+        assert_eq!(seven.lookup(0, 3), Err(refusal(13)));
+        let before = seven.store.clone();
+        assert_eq!(seven.add(7, 0), Err(refusal(13)));
+        assert_eq!(seven.store, before);
+        seven.store[at] ^= 128;
+    }
+    seven.store[35] ^= 128;
+    assert_eq!(seven.lookup(0, 3), Ok(true));
+
+    let (mut eight, _) = Buffers::new(&examples::w9(), 0);
+    for at in 0..eight.store.len() {
+        eight.store[at] ^= 128;
+        assert!(eight.lookup(0, 3).is_ok());
+        eight.store[at] ^= 128;
+    }
+}
+
+#[test]
+fn w10_at_most_4096_axioms() {
+    let (mut lent, counts) = Buffers::new(&examples::w10(), 0);
+    assert_eq!(
+        counts,
+        Counts {
+            pairs: 4096,
+            links: 0
+        }
+    );
+    let before = lent.store.clone();
+    assert_eq!(lent.add(3, 5), Err(refusal(16)));
+    assert_eq!(lent.add(64, 0), Err(refusal(17)));
+    assert_eq!(lent.store, before);
+    // One axiom more than the limit, marked by hand in the row of concept 64.
+    lent.store[64 * 9] = 1;
+    assert_eq!(lent.lookup(0, 1), Err(refusal(14)));
+}
+
+#[test]
+fn headers() {
+    assert_eq!(
+        Catalogue::read(&examples::w1().bytes()[..19]),
+        Err(refusal(1))
+    );
+    let concepts = |n| Catalogue {
+        concepts: vec![Concept::Atomic; n],
+        axioms: vec![],
+        ..examples::w7()
+    };
+    assert!(Catalogue::read(&concepts(512).bytes()).is_ok());
+    assert_eq!(Catalogue::read(&concepts(513).bytes()), Err(refusal(3)));
+}
+
+#[test]
+fn listing_program() {
+    let text = "concepts 7 axioms 3 pairs 14 links 7\n0 3\n";
+    assert_eq!(listing::text(&examples::w1().bytes()), text);
+    assert_eq!(listing::text(&[0; 19]), "refused 1\n");
+    assert_eq!(listing::text(&vec![0; 65_536]), "refused 2\n");
+    assert_eq!(listing::text(&vec![0; 70_000]), "refused 2\n");
+}
+
+#[test]
+fn list_row_and_write() {
+    let (mut lent, _) = Buffers::new(&examples::w1(), 0);
+    let Buffers {
+        catalogue,
+        store,
+        list,
+        ..
+    } = &mut lent;
+    assert_eq!(calls::listing(catalogue, 3, store, list), Ok(2));
+    assert_eq!(list[..4], [0, 0, 3, 0]);
+    assert!(list[4..].iter().all(|&byte| byte == FILL));
+    let row = calls::row(catalogue, 4, store).expect("an accepted call");
+    assert_eq!((row.offset, row.bytes), (11, &[88][..]));
+
+    lent.withdraw(0, 4).expect("an accepted call");
+    let mut output = vec![FILL; 77];
+    assert_eq!(
+        calls::write(&lent.catalogue, &lent.store, &mut output[..75]),
+        Err(refusal(20))
+    );
+    assert!(output.iter().all(|&byte| byte == FILL));
+    assert_eq!(
+        calls::write(&lent.catalogue, &lent.store, &mut output),
+        Ok(76)
+    );
+    assert_eq!(output[76], FILL);
+    let written = Catalogue {
+        axioms: vec![(1, 5), (6, 3)],
+        ..examples::w1()
+    };
+    assert_eq!(Catalogue::read(&output[..76]), Ok(written));
+}
+
+/// Document 001, Examples 1 and 3: 19 subsumptions; withdrawing the last axiom
+/// breaks the partitions of B, ∃S.A and ∃S.C.
+#[test]
+fn example_of_the_source() {
+    let (mut lent, counts) = Buffers::new(&examples::example1(), 0);
+    assert_eq!(counts.pairs, 19);
+    let changed = lent.withdraw(6, 2).expect("an accepted call");
+    assert_eq!(
+        (changed.returned, changed.gained, changed.touched),
+        (0, 0, 3)
+    );
+    assert_eq!(lent.list[..6], [1, 0, 5, 0, 6, 0]);
+    assert_eq!(lent.marks(7, 14), 13);
+}
+
+/// An inference is one use of a rule: withdrawing (1, 1) over-deletes what it
+/// gave, though rules 1 and 3 give the same still.
+#[test]
+fn a_self_axiom() {
+    let axioms = vec![(0, 1), (1, 1)];
+    let concepts = vec![Concept::Atomic; 2];
+    let catalogue = Catalogue {
+        concepts,
+        axioms,
+        ..examples::w7()
+    };
+    let (mut lent, counts) = Buffers::new(&catalogue, 0);
+    assert_eq!(counts.pairs, 3);
+    let changed = Changed {
+        removed: 2,
+        returned: 2,
+        gained: 0,
+        touched: 2,
+    };
+    assert_eq!(lent.withdraw(1, 1), Ok(changed));
+}
+
+/// Every built-in catalogue passes its checks.
+#[test]
+fn built_in_catalogues() {
+    for (name, make) in examples::EXAMPLES {
+        assert!(Catalogue::read(&make().bytes()).is_ok(), "{name}");
+    }
+    assert!(examples::named("w7").is_some() && examples::named("w").is_none());
+    let (lent, _) = Buffers::new(&examples::chain(16), 0);
+    assert!((0..16).all(|c| lent.lookup(c, 17) == Ok(true)));
+}
