@@ -1,1 +1,4 @@
+pub mod Exporting
+pub mod Refusals
 pub mod Unique
+pub mod Kept

@@ -1,29 +1,76 @@
--- The exported call leaves one outcome: two exits at equal entries are equal, the number returned and every lent element.
+-- Each exported call leaves one outcome: two exits at equal entries are equal, the number returned and every lent element.
 use Prim.Native.Nat.{ℕ}
 use native.Mathlib.Decide.{decLt}
 use native.Mathlib.Omega.{arith}
-use mathlib.Core.Path.{_≡_, sym, ap, _∙_}
+use mathlib.Core.Path.{_≡_, refl, sym, ap, _∙_}
 use mathlib.Core.List.{List}
 use lib.ListN.{length}
 use Rattle.closure.specs.declared.Classified.{Classified}
+use Rattle.closure.specs.Classified.{Classifies}
 use Rattle.closure.proofs.Unique.{classifies-unique}
-use Rattle.exports.specs.Classify.{returned, entries, ClassifyExported}
+use Rattle.lookups.proofs.Unique.{lists-unique}
+use Rattle.writing.proofs.Unique.{by-outcome-unique}
+use Rattle.exports.specs.declared.Reply.{Reply}
+use Rattle.exports.specs.Answers.{returned, entries, Exported}
+use Rattle.exports.specs.Classify.{ClassifyExported}
+use Rattle.exports.specs.Lookups.{LookupExported, ListExported, RowExported}
+use Rattle.exports.specs.Write.{WriteExported}
 
-pub exported-unique : (b store work answer : List ℕ) (r r' : ℕ) (s s' w w' a a' : List ℕ) → ClassifyExported b store work answer r s w a → ClassifyExported b store work answer r' s' w' a'
-    → (r ≡ r') × (s ≡ s') × (w ≡ w') × (a ≡ a')
-exported-unique b store work answer r r' s s' w w' a a' p q =
+-- Where a call has one answer and leaves one content, the exported call has one outcome.
+pub exported-unique : {C L : Type 0} {Calls : C → L → Type 0} {replyOf : C → Reply} {lent : L} {answer : List ℕ} {r r' : ℕ} {lent' lent'' : L} {a a' : List ℕ}
+    → ((call call' : C) → Calls call lent' → Calls call' lent'' → (call ≡ call') × (lent' ≡ lent''))
+    → Exported Calls replyOf lent answer r lent' a
+    → Exported Calls replyOf lent answer r' lent'' a'
+    → (r ≡ r') × (lent' ≡ lent'') × (a ≡ a')
+exported-unique {replyOf = replyOf} {answer = answer} unique p q =
     elim (decLt (length answer) 4) [
       | yes l ↦
           let x = p .short l in
           let y = q .short l in
-          (x .returns ∙ sym (y .returns), x .store-kept ∙ sym (y .store-kept), x .work-kept ∙ sym (y .work-kept), x .answer-kept ∙ sym (y .answer-kept))
+          (x .returns ∙ sym (y .returns), x .lent-kept ∙ sym (y .lent-kept), x .answer-kept ∙ sym (y .answer-kept))
       | no g ↦
           let x = p .long (omega arith) in
           let y = q .long (omega arith) in
-          let u = classifies-unique b store work (x .call) (y .call) s s' w w' (x .classifies) (y .classifies) in (
-            x .returns ∙ ap returned (u .0) ∙ sym (y .returns),
+          let u = unique (x .call) (y .call) (x .calls) (y .calls) in (
+            x .gives .returns ∙ ap (λ k. returned (replyOf k)) (u .0) ∙ sym (y .gives .returns),
             u .1,
-            u .2,
-            x .writes ∙ ap (λ (k : Classified). entries k answer) (u .0) ∙ sym (y .writes),
+            x .gives .writes ∙ ap (λ k. entries (replyOf k) answer) (u .0) ∙ sym (y .gives .writes),
           )
     ]
+
+classifies-one : (b store work : List ℕ) (s s' w w' : List ℕ) (call call' : Classified) → Classifies b store work call s w → Classifies b store work call' s' w'
+    → (call ≡ call') × _≡_ {A = List ℕ × List ℕ} (s, w) (s', w')
+classifies-one b store work s s' w w' call call' x y =
+    let u = classifies-unique b store work call call' s s' w w' x y in
+    (u .0, λ i. (u .1 i, u .2 i))
+
+pub classify-unique : (b store work answer : List ℕ) (r r' : ℕ) (s s' w w' a a' : List ℕ)
+    → ClassifyExported b store work answer r s w a → ClassifyExported b store work answer r' s' w' a'
+    → (r ≡ r') × (s ≡ s') × (w ≡ w') × (a ≡ a')
+classify-unique b store work answer r r' s s' w w' a a' p q =
+    let u = exported-unique (classifies-one b store work s s' w w') p q in
+    (u .0, λ i. u .1 i .0, λ i. u .1 i .1, u .2)
+
+pub lookup-unique : (b : List ℕ) (c d : ℕ) (store answer : List ℕ) (r r' : ℕ) (a a' : List ℕ)
+    → LookupExported b c d store answer r a → LookupExported b c d store answer r' a'
+    → (r ≡ r') × (a ≡ a')
+lookup-unique b c d store answer r r' a a' p q =
+    let u = exported-unique (λ call call' x y. (x ∙ sym y, refl)) p q in
+    (u .0, u .2)
+
+pub list-unique : (b : List ℕ) (d : ℕ) (store list answer : List ℕ) (r r' : ℕ) (l l' a a' : List ℕ)
+    → ListExported b d store list answer r l a → ListExported b d store list answer r' l' a'
+    → (r ≡ r') × (l ≡ l') × (a ≡ a')
+list-unique b d store list answer r r' l l' a a' p q = exported-unique (λ call call'. lists-unique b d store list call call' l l') p q
+
+pub row-unique : (b : List ℕ) (c : ℕ) (store answer : List ℕ) (r r' : ℕ) (a a' : List ℕ)
+    → RowExported b c store answer r a → RowExported b c store answer r' a'
+    → (r ≡ r') × (a ≡ a')
+row-unique b c store answer r r' a a' p q =
+    let u = exported-unique (λ call call' x y. (x ∙ sym y, refl)) p q in
+    (u .0, u .2)
+
+pub write-unique : (b store output answer : List ℕ) (r r' : ℕ) (o o' a a' : List ℕ)
+    → WriteExported b store output answer r o a → WriteExported b store output answer r' o' a'
+    → (r ≡ r') × (o ≡ o') × (a ≡ a')
+write-unique b store output answer r r' o o' a a' p q = exported-unique (λ call call'. by-outcome-unique b store output _ call call' o o') p q

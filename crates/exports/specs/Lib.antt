@@ -1,2 +1,4 @@
 pub mod Answers
 pub mod Classify
+pub mod Lookups
+pub mod Write
