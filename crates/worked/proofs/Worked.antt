@@ -6,6 +6,7 @@ use Rattle.catalogue.specs.Examples.{w1}
 use Rattle.catalogue.proofs.Examples.{w1-offsets, w1-accepted, w1-well-formed, nineteen-bytes, most-concepts, too-many-concepts}
 use Rattle.derivation.specs.Tables.{has}
 use Rattle.derivation.proofs.Decided.{not-both}
+use Rattle.rules.specs.Axioms.{none}
 use Rattle.rules.specs.Occurrence.{Occurs, left-side, right-side, occurs}
 use Rattle.rules.specs.Rules.{Expression, pair, Closure}
 use Rattle.rules.specs.Changes.{NewSet}
@@ -13,7 +14,6 @@ use Rattle.rules.proofs.Axioms.{added-back}
 use Rattle.rules.proofs.Occurrence.{occurs-exact}
 use Rattle.rules.proofs.NoAxioms.{none-occurs, none-derived}
 use Rattle.store.proofs.Examples.{w1-lengths, w9-set, w9-none}
-use Rattle.worked.specs.Entries.{none}
 use Rattle.worked.specs.Computed.{closureOf}
 use Rattle.worked.specs.Table.{axioms1, axioms3, axioms5, Worked}
 use Rattle.worked.proofs.W1.{w1-classified}

@@ -12,7 +12,7 @@ use Rattle.catalogue.specs.Header.{conceptsAt, inclusionsAt, compositionsAt, ax
 use Rattle.catalogue.specs.Outcome.{accepted, refused}
 use Rattle.catalogue.specs.Checks.{checked}
 use Rattle.catalogue.specs.Examples.{w1, headerAlone}
-use Rattle.rules.specs.Axioms.{Axioms, catalogueAxioms, added, withdrawn}
+use Rattle.rules.specs.Axioms.{Axioms, catalogueAxioms, none, added, withdrawn}
 use Rattle.rules.specs.Occurrence.{Occurs}
 use Rattle.rules.specs.Rules.{Expression, pair, Closure}
 use Rattle.rules.specs.Changes.{OverDeleted, NewSet}
@@ -21,7 +21,7 @@ use Rattle.store.specs.Checks.{askSpare}
 use Rattle.store.specs.Written.{rising}
 use Rattle.store.specs.Examples.{eightConcepts}
 use Rattle.worked.specs.Catalogues.{w7, example1, example4}
-use Rattle.worked.specs.Entries.{none, Rows, Classified, Changed}
+use Rattle.worked.specs.Entries.{Rows, Classified, Changed}
 
 -- W1's axioms; without (1,5); with that added back; with (0,3) as well; and that without (1,5).
 abbrev pub axioms1 : Axioms
