@@ -18,7 +18,7 @@ use Rattle.derivation.specs.Decided.{Decides}
 use Rattle.rules.specs.Axioms.{Axioms, catalogueAxioms}
 use Rattle.rules.specs.Rules.{Closure}
 use Rattle.rules.proofs.Axioms.{catalogue-in-range}
-use Rattle.worked.specs.Entries.{Size, Pairs, Links}
+use Rattle.rules.specs.Counts.{Size, Pairs, Links}
 use Rattle.blocks.specs.declared.Shape.{Shape}
 use Rattle.blocks.specs.Layout.{shapeOf, place, table, marks, tableLength, blockLength, Shaped}
 use Rattle.store.specs.Parts.{width, used, workUsed, axiomRows, setRows, inForce, held}

@@ -5,11 +5,10 @@ use mathlib.Core.Path.{_≡_, refl, sym, ap₂, _∙_}
 use mathlib.Core.List.{List, _++_}
 use lib.ListN.{length, take-append-drop}
 use Rattle.catalogue.specs.Outcome.{Outcome, accepted, refused}
-use Rattle.derivation.proofs.Counts.{counts-unique}
 use Rattle.rules.specs.Axioms.{catalogueAxioms}
-use Rattle.rules.specs.Rules.{EL, Closure}
-use Rattle.rules.specs.Presentation.{presentation}
-use Rattle.worked.specs.Entries.{none, Pairs, Links}
+use Rattle.rules.specs.Rules.{Closure}
+use Rattle.rules.specs.Counts.{Pairs, Links}
+use Rattle.rules.proofs.Counts.{size-unique}
 use Rattle.store.specs.Parts.{used}
 use Rattle.store.proofs.Fresh.{fresh-unique}
 use Rattle.closure.specs.declared.Classified.{Classified}
@@ -39,8 +38,8 @@ module _ (b store work : List ℕ) (a a' : Classified) (s s' w w' : List ℕ) (p
       let r = p .accepts e in
       let t = q .accepts e in
       let F = catalogueAxioms b in
-      let pairs = counts-unique (EL b) (presentation b none) (Pairs (Closure b F)) (pairsOf a) (pairsOf a') (r .pairs-counted) (t .pairs-counted) in
-      let links = counts-unique (EL b) (presentation b none) (Links (Closure b F)) (linksOf a) (linksOf a') (r .links-counted) (t .links-counted) in
+      let pairs = size-unique b (Pairs (Closure b F)) (pairsOf a) (pairsOf a') (r .pairs-counted) (t .pairs-counted) in
+      let links = size-unique b (Links (Closure b F)) (linksOf a) (linksOf a') (r .links-counted) (t .links-counted) in
       let front = fresh-unique b F F s s' (accepted-fits b (length store) (length work) e .well-formed) (λ c d. refl) (r .fresh) (t .fresh) in (
         accepted-answer a (r .answers) pairs links ∙ sym (accepted-answer a' (t .answers) refl refl),
         sym (take-append-drop (used b) s) ∙ ap₂ _++_ front (r .store-rest ∙ sym (t .store-rest)) ∙ take-append-drop (used b) s',

@@ -8,7 +8,7 @@ use Rattle.catalogue.specs.Checks.{catalogueChecks}
 use Rattle.catalogue.specs.WellFormed.{WellFormed}
 use Rattle.rules.specs.Axioms.{catalogueAxioms}
 use Rattle.rules.specs.Rules.{Closure}
-use Rattle.worked.specs.Entries.{Size, Pairs, Links}
+use Rattle.rules.specs.Counts.{Size, Pairs, Links}
 use Rattle.store.specs.Parts.{used, workUsed}
 use Rattle.store.specs.Fresh.{Fresh}
 use Rattle.store.specs.Checks.{askStore, askWork}

@@ -6,4 +6,3 @@ pub mod Unique
 pub mod Partitions
 pub mod DemandLookup
 pub mod DemandListing
-pub mod Examples

@@ -3,4 +3,3 @@ pub mod Answers
 pub mod Listings
 pub mod Rows
 pub mod Meaning
-pub mod Examples

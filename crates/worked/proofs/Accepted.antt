@@ -9,7 +9,7 @@ use Rattle.catalogue.specs.WellFormed.{WellFormed}
 use Rattle.catalogue.proofs.Accepted.{accepted-well-formed}
 use Rattle.worked.specs.Catalogues.{w7, example1, example4}
 
-w7-accepted : checked w7 ≡ accepted
+pub w7-accepted : checked w7 ≡ accepted
 unfolding word total concepts roles inclusions compositions axioms conceptsAt inclusionsAt compositionsAt axiomsAt kind first second within around role1 role2 result left right ask askEach firstFault firstFaultFrom headerFits totalRight countsInLimits offsetsRight kindRight fieldsAsKind fieldsRight inclusionRight compositionRight sidesRight above risingRight recordChecks catalogueChecks checked w7
 w7-accepted = refl
 

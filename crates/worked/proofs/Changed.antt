@@ -10,7 +10,7 @@ use Rattle.catalogue.specs.WellFormed.{WellFormed}
 use Rattle.derivation.specs.Decided.{Marked, Decides}
 use Rattle.derivation.specs.Tables.{has, image}
 use Rattle.derivation.specs.Finite.{Finite, Numbered, Covers, marked}
-use Rattle.derivation.specs.Rounds.{overTable, afterTable, countOf, Counts}
+use Rattle.derivation.specs.Rounds.{overTable, afterTable, Counts}
 use Rattle.derivation.proofs.Tables.{image-has, image-only}
 use Rattle.derivation.proofs.Decided.{both, negated}
 use Rattle.derivation.proofs.Finite.{marked-expression}
@@ -21,23 +21,25 @@ use Rattle.rules.specs.Axioms.{Axioms, InRange}
 use Rattle.rules.specs.Occurrence.{occurs}
 use Rattle.rules.specs.Rules.{Expression, fact, Inference, partition, EL, allowed, Permits, Closure, Bounded}
 use Rattle.rules.specs.Changes.{OverDeleted, BrokenPartition, NewSet, ReturnedSet, GainedSet, GainingPartition}
+use Rattle.rules.specs.Counts.{Size}
 use Rattle.rules.specs.Presentation.{size, number, expression, presentation}
 use Rattle.rules.proofs.Tests.{or-left, or-right}
 use Rattle.rules.proofs.Presentation.{presentation-numbered, numbered-exact}
 use Rattle.rules.proofs.Changes.{over-same, broken-same, after-same, permits-covered, closure-computed, change-closure}
-use Rattle.worked.specs.Entries.{Size, Rows, Changed}
+use Rattle.closure.proofs.Stored.{closure-bounded}
+use Rattle.closure.proofs.Counted.{numbered-count}
+use Rattle.worked.specs.Entries.{Rows, Changed}
 use Rattle.worked.specs.Computed.{passing, union, closureOf, removedOf, overRowsOf, returnedOf, gainedOf, brokenIn, brokenOf, gainingIn, gainingOf}
 use Rattle.worked.proofs.Lists.{passing-exact}
-use Rattle.worked.proofs.Classified.{closure-bounded, rows-exact}
+use Rattle.worked.proofs.Classified.{rows-exact}
 
 -- One count for equal sets, whatever the listed inferences.
 counts-same : (b : List ℕ) (G : Axioms) (S P : Expression → Type 0) (k : ℕ) → ((e : Expression) → S e ↔ P e) → Counts (EL b) (presentation b G) S k → Size b P k
-unfolding countOf
 counts-same b G S P k same c = record {
   test = c .test;
   decides = λ e. Iff·trans (c .decides e) (same e);
-  within = λ e p. c .within e (same e .1 p);
-  counted = c .counted;
+  within = λ e p. numbered-exact b e .0 (c .within e (same e .1 p));
+  counted = c .counted ∙ numbered-count b (c .test) G;
 }
 
 -- The first concept of an expression within bounds is one of the catalogue's.

@@ -1,7 +1,7 @@
 -- The computed counts and rows are those of the least set.
 use Prim.Native.Nat.{ℕ}
 use native.Mathlib.Nat.{zero-add, not-le-of-lt}
-use mathlib.Core.Path.{_≡_, refl, _∙_, ap, subst}
+use mathlib.Core.Path.{_≡_, _∙_, ap, subst}
 use mathlib.Core.Logic.{_↔_}
 use mathlib.Core.Bool.{Bool, true, false, _&&_, not}
 use mathlib.Core.List.{List}
@@ -12,19 +12,17 @@ use Rattle.catalogue.specs.WellFormed.{WellFormed}
 use Rattle.derivation.specs.Decided.{Decides}
 use Rattle.derivation.specs.Tables.{has}
 use Rattle.derivation.specs.Finite.{marked}
-use Rattle.derivation.specs.Rounds.{countOf}
 use Rattle.derivation.proofs.Decided.{by-bool, not-both}
 use Rattle.derivation.proofs.Tables.{has-empty, image-has, image-only}
 use Rattle.derivation.proofs.Decided.{both}
 use Rattle.rules.specs.Axioms.{Axioms, InRange}
-use Rattle.rules.specs.Occurrence.{occurs}
 use Rattle.rules.specs.Rules.{Expression, pair, EL, Closure, Bounded}
+use Rattle.rules.specs.Counts.{Size, isPair, Pairs, Links}
 use Rattle.rules.specs.Presentation.{presentation}
-use Rattle.rules.proofs.Bounds.{derived-bounded}
-use Rattle.rules.proofs.Occurrence.{occurs-exact, occurs-below}
-use Rattle.rules.proofs.Presentation.{numbered-exact}
 use Rattle.rules.proofs.Changes.{closure-computed}
-use Rattle.worked.specs.Entries.{Size, isPair, Pairs, Links, Rows, Classified}
+use Rattle.closure.proofs.Stored.{closure-bounded}
+use Rattle.closure.proofs.Counted.{numbered-count}
+use Rattle.worked.specs.Entries.{Rows, Classified}
 use Rattle.worked.specs.Computed.{closureOf, countIn, pairsOf, linksOf, rowBy, rowsBy, rowsOf}
 use Rattle.worked.proofs.Lists.{value-in, value-past}
 
@@ -55,20 +53,17 @@ module _ (b : List ℕ) (F : Axioms) (wf : WellFormed b) (range : InRange b F) w
   unfolding member closureOf
   member-exact = closure-computed b F F wf range (λ c d f. f)
 
-  pub closure-bounded : (e : Expression) → Closure b F e → Bounded b e
-  closure-bounded e l = derived-bounded b F (occurs b F) wf range (λ c o. occurs-below b F wf range c (occurs-exact b F wf range c .0 o)) l
-
   -- A part of the least set, by a test.
   part-counted : (P : Expression → Type 0) (test : Expression → Bool) → Decides test P → Size b (λ e. Closure b F e × P e) (countIn b F test)
-  unfolding countIn countOf member
+  unfolding countIn member
   part-counted P test exact = record {
     test = λ e. member e && test e;
     decides = λ e. (
       λ m. let r = both (member e) (test e) .0 m in (member-exact e .0 (r .0), exact e .0 (r .1)),
       λ p. both (member e) (test e) .1 (member-exact e .1 (p .0), exact e .1 (p .1)),
     );
-    within = λ e p. numbered-exact b e .1 (closure-bounded e (p .0));
-    counted = refl;
+    within = λ e p. closure-bounded b F wf range e (p .0);
+    counted = numbered-count b (λ e. member e && test e) F;
   }
 
   -- Numbers and rows that agree with the computed ones are right.
@@ -77,5 +72,5 @@ module _ (b : List ℕ) (F : Axioms) (wf : WellFormed b) (range : InRange b F) w
   classified pairs links rows p l r = record {
     pairs-right = subst (Size b (Pairs (Closure b F))) p (part-counted (λ e. isPair e ≡ true) isPair (λ e. (λ h. h, λ h. h)));
     links-right = subst (Size b (Links (Closure b F))) l (part-counted (λ e. isPair e ≡ false) (λ e. not (isPair e)) (λ e. (not-true (isPair e), λ h. ap not h)));
-    rows-right = subst (Rows (Closure b F)) r (rows-exact b (Closure b F) member member-exact closure-bounded);
+    rows-right = subst (Rows (Closure b F)) r (rows-exact b (Closure b F) member member-exact (closure-bounded b F wf range));
   }

@@ -2,9 +2,13 @@ pub mod Lists
 pub mod Classified
 pub mod Changed
 pub mod Accepted
+pub mod Stores
+pub mod Classifying
 pub mod W1
 pub mod W3
 pub mod W6
 pub mod W7
+pub mod W8
+pub mod Reading
 pub mod Examples
 pub mod Worked

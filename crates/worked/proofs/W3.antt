@@ -1,17 +1,24 @@
 -- W3 to W5: withdraw (1,5), and add it back.
+use native.Mathlib.Omega.{arith}
 use mathlib.Core.Path.{_≡_, refl}
+use mathlib.Core.Bool.{false}
 use mathlib.Core.List.{[], _∷_}
+use lib.ListN.{length}
 use Rattle.catalogue.specs.Examples.{w1}
 use lib.Dec.{lit<}
 use Rattle.catalogue.specs.Words.{word}
 use Rattle.catalogue.specs.Header.{concepts}
 use Rattle.rules.specs.Axioms.{InRange}
 use Rattle.rules.proofs.Axioms.{added-in-range, withdrawn-in-range}
+use Rattle.store.specs.Fresh.{Fresh}
+use Rattle.store.proofs.Examples.{w1-lengths}
+use Rattle.worked.specs.Stores.{w3Store}
 use Rattle.worked.specs.Entries.{Classified, Changed}
 use Rattle.worked.specs.Computed.{pairsOf, linksOf, rowsOf, removedOf, returnedOf, gainedOf, brokenOf, gainingOf}
 use Rattle.worked.specs.Table.{axioms1, axioms3, axioms5}
 use Rattle.worked.proofs.Classified.{classified}
 use Rattle.worked.proofs.Changed.{changed}
+use Rattle.worked.proofs.Stores.{otherAxiom, otherExpression, otherByte, fresh-computed}
 use Rattle.catalogue.proofs.Examples.{w1-well-formed}
 use Rattle.worked.proofs.W1.{range1}
 
@@ -60,6 +67,29 @@ w3-left-rows = refl
 
 pub w3-left : Classified w1 axioms3 8 3 (17 ∷ 2 ∷ 4 ∷ 8 ∷ 16 ∷ 0 ∷ 72 ∷ [])
 w3-left = classified w1 axioms3 w1-well-formed range3 8 3 (17 ∷ 2 ∷ 4 ∷ 8 ∷ 16 ∷ 0 ∷ 72 ∷ []) w3-left-pairs w3-left-links w3-left-rows
+
+-- ---- the store that is left
+
+w3-store-long : length w3Store ≡ 35
+unfolding w3Store
+w3-store-long = refl
+
+w3-store-axioms : otherAxiom w1 axioms3 w3Store ≡ false
+unfolding otherAxiom w1 w3Store
+w3-store-axioms = refl
+
+w3-store-set : otherExpression w1 axioms3 w3Store ≡ false
+unfolding otherExpression w1 w3Store
+w3-store-set = refl
+
+w3-store-bytes : otherByte w1 w3Store ≡ false
+unfolding otherByte w1 w3Store
+w3-store-bytes = refl
+
+pub w3-fresh : Fresh w1 axioms3 w3Store
+w3-fresh = fresh-computed w1 axioms3 w3Store w1-well-formed range3 (omega (arith, w1-lengths .0, w3-store-long)) w3-store-axioms w3-store-set w3-store-bytes
+
+-- ---- added back
 
 w5-change-removed : removedOf w1 axioms3 axioms5 ≡ 0
 unfolding removedOf w1

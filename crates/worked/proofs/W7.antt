@@ -1,6 +1,16 @@
 -- W7: two pairs hold each other up, and go all the same.
-use mathlib.Core.Path.{_≡_, refl}
+use Prim.Native.Nat.{ℕ}
+use native.Mathlib.Omega.{arith}
+use mathlib.Core.Path.{_≡_, refl, subst, sym, _∙_}
+use mathlib.Core.Bool.{false}
 use mathlib.Core.List.{[], _∷_}
+use lib.ListN.{length, take, drop}
+use Rattle.catalogue.specs.Words.{word}
+use Rattle.catalogue.specs.Header.{concepts, roles}
+use Rattle.store.specs.Parts.{width, used, workUsed}
+use Rattle.store.specs.Fresh.{Fresh}
+use Rattle.worked.specs.Stores.{w7Store}
+use Rattle.worked.specs.Calls.{ClassifyGives}
 use Rattle.worked.specs.Catalogues.{w7}
 use Rattle.rules.specs.Axioms.{InRange}
 use Rattle.rules.proofs.Axioms.{catalogue-in-range, withdrawn-in-range}
@@ -9,7 +19,9 @@ use Rattle.worked.specs.Computed.{pairsOf, linksOf, rowsOf, removedOf, r
 use Rattle.worked.specs.Table.{axioms7, axioms7'}
 use Rattle.worked.proofs.Classified.{classified}
 use Rattle.worked.proofs.Changed.{changed}
-use Rattle.worked.proofs.Accepted.{w7-well-formed}
+use Rattle.worked.proofs.Accepted.{w7-accepted, w7-well-formed}
+use Rattle.worked.proofs.Stores.{otherAxiom, otherExpression, otherByte, fresh-computed}
+use Rattle.worked.proofs.Classifying.{classify-gives}
 
 pub range7 : InRange w7 axioms7
 range7 = catalogue-in-range w7 w7-well-formed
@@ -31,6 +43,43 @@ w7-classified-rows = refl
 
 pub w7-classified : Classified w7 axioms7 7 0 (7 ∷ 6 ∷ 6 ∷ [])
 w7-classified = classified w7 axioms7 w7-well-formed range7 7 0 (7 ∷ 6 ∷ 6 ∷ []) w7-classified-pairs w7-classified-links w7-classified-rows
+
+-- ---- the store
+
+w7-lengths : (used w7 ≡ 6) × (workUsed w7 ≡ 3)
+unfolding w7 word concepts roles width used workUsed
+w7-lengths = (refl, refl)
+
+w7-store-long : length w7Store ≡ 6
+unfolding w7Store
+w7-store-long = refl
+
+w7-store-axioms : otherAxiom w7 axioms7 w7Store ≡ false
+unfolding otherAxiom w7 w7Store
+w7-store-axioms = refl
+
+w7-store-set : otherExpression w7 axioms7 w7Store ≡ false
+unfolding otherExpression w7 w7Store
+w7-store-set = refl
+
+w7-store-bytes : otherByte w7 w7Store ≡ false
+unfolding otherByte w7 w7Store
+w7-store-bytes = refl
+
+pub w7-fresh : Fresh w7 axioms7 w7Store
+w7-fresh = fresh-computed w7 axioms7 w7Store w7-well-formed range7 (omega (arith, w7-lengths .0, w7-store-long)) w7-store-axioms w7-store-set w7-store-bytes
+
+pub w7-rows : take 3 (drop 3 w7Store) ≡ 7 ∷ 6 ∷ 6 ∷ []
+unfolding w7Store
+w7-rows = refl
+
+pub w7-classify : ClassifyGives w7 6 3 7 0 w7Store
+w7-classify =
+    subst (λ (k : ℕ). ClassifyGives w7 k 3 7 0 w7Store) (w7-lengths .0)
+    (subst (λ (k : ℕ). ClassifyGives w7 (used w7) k 7 0 w7Store) (w7-lengths .1)
+    (classify-gives w7 7 0 w7Store w7-accepted (w7-store-long ∙ sym (w7-lengths .0)) w7-fresh (w7-classified .pairs-right) (w7-classified .links-right)))
+
+-- ---- the change
 
 w7-change-removed : removedOf w7 axioms7 axioms7' ≡ 3
 unfolding removedOf w7

@@ -2,34 +2,13 @@
 use Prim.Native.Nat.{ℕ}
 use mathlib.Core.Path.{_≡_}
 use mathlib.Core.Logic.{_↔_}
-use mathlib.Core.Bool.{Bool, true, false}
+use mathlib.Core.Bool.{Bool, true}
 use mathlib.Core.List.{List, List·Memᴰ}
 use lib.ListN.{getD}
-use lib.Dec.{eqb}
 use Rattle.derivation.specs.Tables.{has}
-use Rattle.derivation.specs.Rounds.{Counts}
-use Rattle.rules.specs.Axioms.{Axioms}
-use Rattle.rules.specs.Rules.{Expression, fact, pair, EL, Closure}
+use Rattle.rules.specs.Rules.{Expression, pair, Closure}
+use Rattle.rules.specs.Counts.{Size, Pairs, Links}
 use Rattle.rules.specs.Changes.{OverDeleted, BrokenPartition, NewSet, ReturnedSet, GainedSet, GainingPartition}
-use Rattle.rules.specs.Presentation.{presentation}
-
--- No axioms in force.
-abbrev pub none : Axioms
-none c d = false
-
--- S has k members, all over the catalogue's concepts and roles.
-abbrev pub Size : List ℕ → (Expression → Type 0) → ℕ → Type 0
-Size b S k = Counts (EL b) (presentation b none) S k
-
-unfoldable pub isPair : Expression → Bool
-isPair (fact c g d) = eqb g 0
-
--- The pairs of a set, and its links.
-abbrev pub Pairs : (Expression → Type 0) → Expression → Type 0
-Pairs S e = S e × (isPair e ≡ true)
-
-abbrev pub Links : (Expression → Type 0) → Expression → Type 0
-Links S e = S e × (isPair e ≡ false)
 
 -- The pair rows of a set: bit d of row c, counted from the lowest, says whether C⊑D is a member.
 abbrev pub Rows : (Expression → Type 0) → List ℕ → Type 0

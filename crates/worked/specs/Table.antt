@@ -1,27 +1,35 @@
--- The worked table (document 01, Examples; document 001, Examples 1, 3 and 4), as far as it speaks of catalogues, sets, counts, touched
--- concepts and stores' sizes and spare bits.
-use Prim.Native.Nat.{ℕ, _+_, _*_}
+-- The worked table (document 01, Examples; document 001, Examples 1, 3 and 4): catalogues, sets, counts, touched concepts, and stores, about
+-- the definitions; and what classify, lookup, row, listing and write answer. What a call answers is said of every exit that its contract allows, and
+-- what is read, of every store classified afresh.
+use Prim.Native.Nat.{ℕ, _+_, _*_, _<_}
 use mathlib.Core.Bool.{true}
 use mathlib.Core.Path.{_≡_}
 use mathlib.Core.Logic.{_↔_}
 use mathlib.Core.List.{List, [], _∷_, map}
-use lib.ListN.{length, replicate}
+use lib.ListN.{length, take, drop, replicate}
 use Rattle.rows.specs.Bits.{setBit}
 use Rattle.catalogue.specs.WellFormed.{WellFormed}
-use Rattle.catalogue.specs.Header.{conceptsAt, inclusionsAt, compositionsAt, axiomsAt}
+use Rattle.catalogue.specs.Header.{concepts, axioms, conceptsAt, inclusionsAt, compositionsAt, axiomsAt}
 use Rattle.catalogue.specs.Outcome.{accepted, refused}
 use Rattle.catalogue.specs.Checks.{checked}
 use Rattle.catalogue.specs.Examples.{w1, headerAlone}
-use Rattle.rules.specs.Axioms.{Axioms, catalogueAxioms, added, withdrawn}
+use Rattle.rules.specs.Axioms.{Axioms, catalogueAxioms, none, added, withdrawn}
 use Rattle.rules.specs.Occurrence.{Occurs}
 use Rattle.rules.specs.Rules.{Expression, pair, Closure}
 use Rattle.rules.specs.Changes.{OverDeleted, NewSet}
 use Rattle.store.specs.Parts.{used, workUsed, spareClear}
+use Rattle.store.specs.Fresh.{Fresh}
 use Rattle.store.specs.Checks.{askSpare}
 use Rattle.store.specs.Written.{rising}
 use Rattle.store.specs.Examples.{eightConcepts}
+use Rattle.lookups.specs.Answers.{lookedUp}
+use Rattle.lookups.specs.Rows.{rowAnswer}
+use Rattle.lookups.specs.declared.pairs.Looked.the-variants.{Yes, No, Refused}
+use Rattle.lookups.specs.declared.handing.Handed.the-variants.{Row}
 use Rattle.worked.specs.Catalogues.{w7, example1, example4}
-use Rattle.worked.specs.Entries.{none, Rows, Classified, Changed}
+use Rattle.worked.specs.Stores.{w1Store, w3Store, w7Store}
+use Rattle.worked.specs.Calls.{ClassifyGives, ClassifyRefuses, ListingGives, WriteGives}
+use Rattle.worked.specs.Entries.{Rows, Classified, Changed}
 
 -- W1's axioms; without (1,5); with that added back; with (0,3) as well; and that without (1,5).
 abbrev pub axioms1 : Axioms
@@ -61,6 +69,7 @@ abbrev pub example4Axioms' : Axioms
 example4Axioms' = withdrawn (withdrawn example4Axioms 1 2) 2 1
 
 pub record Worked : Type 0 where
+  -- ---- W1 and W2
   -- W1's file has 80 bytes, offsets 20, 62, 62, 68, and is accepted.
   pub W1-bytes : (length w1 ≡ 80) × (conceptsAt w1 ≡ 20) × (inclusionsAt w1 ≡ 62) × (compositionsAt w1 ≡ 62) × (axiomsAt w1 ≡ 68)
   pub W1-accepted : checked w1 ≡ accepted
@@ -68,34 +77,65 @@ pub record Worked : Type 0 where
   pub W1-store : (used w1 ≡ 35) × (workUsed w1 ≡ 28)
   -- W1: 14 pairs, 7 links; pair rows 89, 34, 4, 8, 88, 32, 72.
   pub W1 : Classified w1 axioms1 14 7 (89 ∷ 34 ∷ 4 ∷ 8 ∷ 88 ∷ 32 ∷ 72 ∷ [])
+  -- Classify answers these counts, and leaves W1's store, whose pair rows are these bytes and which is classified afresh.
+  pub W1-classify : ClassifyGives w1 35 28 14 7 w1Store
+  pub W1-rows : take 7 (drop 7 w1Store) ≡ 89 ∷ 34 ∷ 4 ∷ 8 ∷ 88 ∷ 32 ∷ 72 ∷ []
+  pub W1-fresh : Fresh w1 axioms1 w1Store
+  -- The row of 0 stands from byte 7 of the store, one byte long.
+  pub W1-row : (store : List ℕ) → Fresh w1 axioms1 store → (rowAnswer w1 0 store ≡ Row 7 1) × (take 1 (drop 7 store) ≡ 89 ∷ [])
+  -- Listing under 3 gives the atomic concepts 0 and 3, and listing under 6 gives 0, two bytes each.
+  pub W1-listing3 : (store : List ℕ) → Fresh w1 axioms1 store → ListingGives w1 3 store 14 2 (0 ∷ 0 ∷ 3 ∷ 0 ∷ [])
+  pub W1-listing6 : (store : List ℕ) → Fresh w1 axioms1 store → ListingGives w1 6 store 14 1 (0 ∷ 0 ∷ [])
+  -- Write gives W1's file of 80 bytes back.
+  pub W1-write : (store : List ℕ) → Fresh w1 axioms1 store → WriteGives w1 store 80 w1
   -- W2: (0,3) yes; (3,0) no; both occur.
   pub W2-yes : Closure w1 axioms1 (pair 0 3)
   pub W2-no : ¬ (Closure w1 axioms1 (pair 3 0))
   pub W2-occur : Occurs w1 axioms1 0 × Occurs w1 axioms1 3
+  pub W2-lookups : (store : List ℕ) → Fresh w1 axioms1 store → (lookedUp w1 0 3 store ≡ Yes) × (lookedUp w1 3 0 store ≡ No)
+  -- ---- W3 to W6
   -- W3: withdraw (1,5): removed 10, returned 0, gained 0; touched 0, 1, 4, 5; 8 pairs, 3 links.
   pub W3 : Changed w1 axioms1 axioms3 10 0 0 (0 ∷ 1 ∷ 4 ∷ 5 ∷ []) []
   pub W3-left : Classified w1 axioms3 8 3 (17 ∷ 2 ∷ 4 ∷ 8 ∷ 16 ∷ 0 ∷ 72 ∷ [])
-  -- W4: then 5 does not occur.
+  pub W3-fresh : Fresh w1 axioms3 w3Store
+  -- W4: then 5 does not occur, and lookup of 5 gives 19.
   pub W4 : ¬ (Occurs w1 axioms3 5)
-  -- W5: (1,5) added back gives W1's set.
+  pub W4-lookups : (store : List ℕ) → Fresh w1 axioms3 store → (x : ℕ) → x < 7 → (lookedUp w1 5 x store ≡ Refused 19 0) × (lookedUp w1 x 5 store ≡ Refused 19 0)
+  -- W5: (1,5) added back gives W1's set, and W1's store.
   pub W5 : Changed w1 axioms3 axioms5 0 0 10 [] (0 ∷ 1 ∷ 4 ∷ 5 ∷ [])
   pub W5-back : (axioms5 ≡ axioms1) × ((e : Expression) → NewSet w1 axioms3 axioms5 (Closure w1 axioms3) e ↔ Closure w1 axioms1 e)
+  pub W5-store : (store : List ℕ) → Fresh w1 axioms5 store → take 35 store ≡ w1Store
   -- W6: with (0,3) also in force, W3 has removed 10, returned 1.
   pub W6 : Changed w1 axioms6 axioms6' 10 1 0 (0 ∷ 1 ∷ 4 ∷ 5 ∷ []) []
+  -- ---- W7
   -- W7: 7 pairs; withdraw (0,1): removed 3, touched 0, 4 pairs left.
   pub W7 : Classified w7 axioms7 7 0 (7 ∷ 6 ∷ 6 ∷ [])
   pub W7-change : Changed w7 axioms7 axioms7' 3 0 0 (0 ∷ []) []
   pub W7-left : Classified w7 axioms7' 4 0 (0 ∷ 6 ∷ 6 ∷ [])
+  -- Classify answers 7 pairs and no link, and leaves W7's store of 6 bytes: rows of axioms, and then the pair rows 7, 6, 6.
+  pub W7-classify : ClassifyGives w7 6 3 7 0 w7Store
+  pub W7-rows : take 3 (drop 3 w7Store) ≡ 7 ∷ 6 ∷ 6 ∷ []
+  pub W7-fresh : Fresh w7 axioms7 w7Store
+  -- ---- W8
   -- W8: no axioms: empty sets, and nothing occurs.
   pub W8 : (b : List ℕ) → WellFormed b → (e : Expression) → ¬ (Closure b none e)
   pub W8-occur : (b : List ℕ) (c : ℕ) → ¬ (Occurs b none c)
+  -- Classify of an accepted catalogue without axioms answers no pair and no link, and the used part is zero.
+  pub W8-classify : (b : List ℕ) → checked b ≡ accepted → axioms b ≡ 0 → ClassifyGives b (used b) (workUsed b) 0 0 (replicate (used b) 0)
+  -- Every lookup of two concepts in such a store gives 19.
+  pub W8-lookup : (b store : List ℕ) → checked b ≡ accepted → take (used b) store ≡ replicate (used b) 0 → (c d : ℕ) → c < concepts b → d < concepts b → lookedUp b c d store ≡ Refused 19 0
+  -- ---- W9, and the limits
   -- W9: n = 7 with bit 7 of any row set: 13; n = 8: no spare bit, whatever the store.
   pub W9 : map (λ (r : ℕ). askSpare (spareClear w1 (setBit (replicate 35 0) (8 * r + 7))) accepted) (rising (λ (r : ℕ). true) 35) ≡ replicate 35 (refused 13 0)
+  pub W9-lookup : map (λ (r : ℕ). lookedUp w1 0 3 (setBit w1Store (8 * r + 7))) (rising (λ (r : ℕ). true) 35) ≡ replicate 35 (Refused 13 0)
   pub W9-none : (store : List ℕ) → askSpare (spareClear eightConcepts store) accepted ≡ accepted
   -- 19 bytes: 1. n 512 passes question 3, and a header alone is then refused by 4; 513: 3.
   pub bytes-19 : (b : List ℕ) → length b ≡ 19 → checked b ≡ refused 1 0
+  pub bytes-19-classify : (b : List ℕ) → length b ≡ 19 → ClassifyRefuses b 1 0
   pub n-512 : checked (headerAlone 512 16 64 64 4096) ≡ refused 4 0
   pub n-513 : checked (headerAlone 513 16 64 64 4096) ≡ refused 3 0
+  pub n-513-classify : ClassifyRefuses (headerAlone 513 16 64 64 4096) 3 0
+  -- ---- document 001
   -- Example 1: the nineteen subsumptions, and with the links that rule 6 splits off.
   pub example1-closure : Classified example1 example1Axioms 19 10 (29 ∷ 102 ∷ 4 ∷ 28 ∷ 20 ∷ 100 ∷ 68 ∷ [])
   -- Example 3: (7), (12) and (16) to (19) are deleted, with three links; broken are B, ∃S.A and ∃S.C; left are (1) to (6), (8) to (11) and (13) to (15).

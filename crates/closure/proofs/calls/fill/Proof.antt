@@ -9,7 +9,7 @@ use borrow.Rule.Slice.PartMut.{putMid, midOf, mid-len, same-len-mid}
 use Rattle.rules.specs.Axioms.{catalogueAxioms}
 use Rattle.rules.specs.Rules.{Closure}
 use Rattle.rules.proofs.Axioms.{catalogue-in-range}
-use Rattle.worked.specs.Entries.{Size, Pairs, Links}
+use Rattle.rules.specs.Counts.{Size, Pairs, Links}
 use Rattle.blocks.specs.Layout.{table, blockLength, tableLength}
 use Rattle.store.proofs.Sizes.{work-is-block}
 use Rattle.closure.specs.Closing.{Closes}

@@ -15,3 +15,7 @@ w3Store =
     16 ∷ 0 ∷ 0 ∷ 0 ∷ 0 ∷ 0 ∷ 8 ∷
     17 ∷ 2 ∷ 4 ∷ 8 ∷ 16 ∷ 0 ∷ 72 ∷
     2 ∷ 0 ∷ 0 ∷ 0 ∷ 0 ∷ 0 ∷ 0 ∷ 0 ∷ 0 ∷ 0 ∷ 0 ∷ 0 ∷ 2 ∷ 0 ∷ 0 ∷ 0 ∷ 0 ∷ 0 ∷ 0 ∷ 0 ∷ 4 ∷ []
+
+-- W7's store: no roles, and so no rows of links.
+unfoldable pub w7Store : List ℕ
+w7Store = 2 ∷ 4 ∷ 2 ∷ 7 ∷ 6 ∷ 6 ∷ []
