@@ -14,6 +14,10 @@ pub type Output = fn(&[u8]) -> String;
 pub const PROGRAMS: &[(&str, Output)] = &[
     // crate, and what it prints
     ("listing", listing::text),
+    ("listing_empty", listing::text),
+    ("listing_long", listing::text),
+    ("listing_many", listing::text),
+    ("listing_refused", listing::text),
 ];
 
 /// Writes the expected output of every known program crate below `root`; one

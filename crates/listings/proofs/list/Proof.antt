@@ -1,10 +1,10 @@
 -- `list` meets its contract: an accepted store is as long as its well-formed catalogue asks.
 use Rattle.store.specs.Parts.{Sized}
 use Rattle.catalogue.proofs.Bounds.{header-within}
-use Rattle.listing.proofs.Sizes.{done-sized}
+use Rattle.listings.proofs.Sizes.{done-sized}
 use borrow.Author.Needs.{needs}
-use Rattle.listing.proofs.list.Statement.{statement}
-use Rattle.listing.proofs.list.Tie as tie
+use Rattle.listings.proofs.list.Statement.{statement}
+use Rattle.listings.proofs.list.Tie as tie
 
 classify-requires : tie.Need-classify-requires
 classify-requires c κs = search needs
