@@ -2,7 +2,9 @@
 //! `crates/NAME/stdin` (nothing where there is no such file), and must write
 //! what `crates/NAME/stdout` holds.
 
+use crate::inputs;
 use crate::listing;
+use crate::programs;
 use std::fs;
 use std::io;
 use std::path::Path;
@@ -18,33 +20,46 @@ pub const PROGRAMS: &[(&str, Output)] = &[
     ("listing_long", listing::text),
     ("listing_many", listing::text),
     ("listing_refused", listing::text),
+    ("catalogue_check", programs::catalogue_check),
+    ("closure_check", programs::closure_check),
+    ("lookups_check", programs::lookups_check),
 ];
+
+/// Writes the input of every program crate below `root` whose input is made
+/// here; one line of report for each.
+pub fn regenerate_inputs(root: &Path) -> io::Result<Vec<String>> {
+    let make = |&(name, input): &(&str, inputs::Input)| {
+        let bytes = input(&root.join("data"))?;
+        let state = replace(&root.join("crates").join(name), "stdin", &bytes)?;
+        Ok(format!("{name} {state}"))
+    };
+    inputs::PROGRAMS.iter().map(make).collect()
+}
 
 /// Writes the expected output of every known program crate below `root`; one
 /// line of report for each.
 pub fn regenerate(root: &Path) -> io::Result<Vec<String>> {
-    PROGRAMS
-        .iter()
-        .map(|&(name, output)| {
-            let state = regenerate_one(&root.join("crates").join(name), output)?;
-            Ok(format!("{name} {state}"))
-        })
-        .collect()
+    let make = |&(name, output): &(&str, Output)| {
+        let folder = root.join("crates").join(name);
+        let input = match fs::read(folder.join("stdin")) {
+            Err(error) if error.kind() == io::ErrorKind::NotFound => vec![],
+            other => other?,
+        };
+        let state = replace(&folder, "stdout", output(&input).as_bytes())?;
+        Ok(format!("{name} {state}"))
+    };
+    PROGRAMS.iter().map(make).collect()
 }
 
-fn regenerate_one(folder: &Path, output: Output) -> io::Result<&'static str> {
+/// Writes a file of a crate, if it has other bytes.
+fn replace(folder: &Path, file: &str, bytes: &[u8]) -> io::Result<&'static str> {
     if !folder.is_dir() {
         return Ok("absent");
     }
-    let input = match fs::read(folder.join("stdin")) {
-        Err(error) if error.kind() == io::ErrorKind::NotFound => vec![],
-        other => other?,
-    };
-    let text = output(&input);
-    let file = folder.join("stdout");
-    if fs::read(&file).is_ok_and(|present| present == text.as_bytes()) {
+    let file = folder.join(file);
+    if fs::read(&file).is_ok_and(|present| present == bytes) {
         return Ok("unchanged");
     }
-    fs::write(file, text)?;
+    fs::write(file, bytes)?;
     Ok("written")
 }
