@@ -2,6 +2,7 @@
 //! `crates/NAME/stdin` (nothing where there is no such file), and must write
 //! what `crates/NAME/stdout` holds.
 
+use crate::fixed;
 use crate::inputs;
 use crate::listing;
 use crate::programs;
@@ -12,7 +13,7 @@ use std::path::Path;
 /// Makes a program's standard output from its standard input.
 pub type Output = fn(&[u8]) -> String;
 
-/// The program crates whose output is known here: one line each.
+/// The program crates, one line each.
 pub const PROGRAMS: &[(&str, Output)] = &[
     // crate, and what it prints
     ("listing", listing::text),
@@ -20,7 +21,10 @@ pub const PROGRAMS: &[(&str, Output)] = &[
     ("listing_long", listing::text),
     ("listing_many", listing::text),
     ("listing_refused", listing::text),
+    ("rows_check", fixed::rows_check),
     ("catalogue_check", programs::catalogue_check),
+    ("structure_check", fixed::structure_check),
+    ("store_check", fixed::store_check),
     ("closure_check", programs::closure_check),
     ("lookups_check", programs::lookups_check),
 ];

@@ -12,7 +12,7 @@
 //! - `store`: the bytes of a store
 //! - `calls`: the public calls, each with its checks in order
 //! - `listing`: the text of the listing program
-//! - `programs`: the text of check programs
+//! - `programs`, `fixed`: the text of the check programs
 //! - `checksum`: the checksum that they print
 //! - `examples`: built-in catalogues
 //! - `inputs`: inputs of programs
@@ -26,6 +26,7 @@ pub mod checksum;
 pub mod examples;
 pub mod expected;
 pub mod expressions;
+pub mod fixed;
 pub mod inputs;
 pub mod listing;
 pub mod programs;

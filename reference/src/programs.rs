@@ -1,5 +1,5 @@
-//! The text of the check programs: what each prints for its input. The input's
-//! form is said at the head of the program.
+//! The text of the check programs that read an input: what each prints for it.
+//! The input's form is said at the head of the program.
 
 use crate::calls;
 use crate::catalogue::{Catalogue, Refusal};

@@ -10,9 +10,10 @@ fn root() -> PathBuf {
     Path::new(env!("CARGO_MANIFEST_DIR")).join("..")
 }
 
+/// A file of a crate; nothing where there is none.
 fn file(name: &str, file: &str) -> Vec<u8> {
     let path = root().join("crates").join(name).join(file);
-    fs::read(&path).unwrap_or_else(|error| panic!("{}: {error}", path.display()))
+    fs::read(path).unwrap_or_default()
 }
 
 /// Values that the authors of FNV publish.
