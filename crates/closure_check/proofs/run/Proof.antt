@@ -21,7 +21,8 @@ say-classified-requires c κs =
     let args = c .before .before .before .before .before .before .before .before .before .before .before .before .before .before .args in
     let called = c .before .before .before .before .before .before .before .before .classify in
     let answer = c .before .before .answer2 .given in
-    done-sized (args .b .now) (args .store .now) (args .work .now) (called .result) (called .last .1 .0) (called .last .1 .1 .0) (answer .0 .0) (answer .0 .1 .0) (called .ensures) (answer .1)
+    done-sized (args .b .now) (args .store .now) (args .work .now) (called .result) (called .last .1 .0) (called .last .1 .1 .0) (answer .0 .0) (answer .0 .1 .0)
+    (called .ensures) (answer .1)
 
 same-length : tie.Need-same-length
 same-length c = search needs

@@ -1,5 +1,4 @@
 -- `list` meets its contract: an accepted store is as long as its well-formed catalogue asks.
-use Rattle.store.specs.Parts.{Sized}
 use Rattle.catalogue.proofs.Bounds.{header-within}
 use Rattle.listings.proofs.Sizes.{done-sized}
 use borrow.Author.Needs.{needs}
@@ -19,16 +18,33 @@ enum-known-answer-2 : tie.Need-enum-known-answer-2
 enum-known-answer-2 c = search needs
 
 concepts-requires : tie.Need-concepts-requires
-concepts-requires c κs = header-within (done-sized (c .before .before .before .before .before .before .before .before .before .before .before .before .before .args .b .now) (c .before .before .before .before .before .before .before .before .before .before .before .before .before .args .store .now) (c .before .before .before .before .before .before .before .before .before .before .before .before .before .args .work .now) (c .before .before .before .before .before .before .before .classify .result) (c .before .before .before .before .before .before .before .classify .last .1 .0) (c .before .before .before .before .before .before .before .classify .last .1 .1 .0) (c .before .answer2 .given .0 .0) (c .before .answer2 .given .0 .1 .0) (c .before .before .before .before .before .before .before .classify .ensures) (c .before .answer2 .given .1) .well-formed)
+concepts-requires c κs =
+    let args = c .before .before .before .before .before .before .before .before .before .before .before .before .before .args in
+    let called = c .before .before .before .before .before .before .before .classify in
+    let answer = c .before .answer2 .given in
+    header-within
+    (done-sized (args .b .now) (args .store .now) (args .work .now) (called .result) (called .last .1 .0) (called .last .1 .1 .0) (answer .0 .0) (answer .0 .1 .0)
+    (called .ensures) (answer .1) .well-formed)
 
 axioms-requires : tie.Need-axioms-requires
-axioms-requires c κs = header-within (done-sized (c .before .before .before .before .before .before .before .before .before .before .before .before .before .before .args .b .now) (c .before .before .before .before .before .before .before .before .before .before .before .before .before .before .args .store .now) (c .before .before .before .before .before .before .before .before .before .before .before .before .before .before .args .work .now) (c .before .before .before .before .before .before .before .before .classify .result) (c .before .before .before .before .before .before .before .before .classify .last .1 .0) (c .before .before .before .before .before .before .before .before .classify .last .1 .1 .0) (c .before .before .answer2 .given .0 .0) (c .before .before .answer2 .given .0 .1 .0) (c .before .before .before .before .before .before .before .before .classify .ensures) (c .before .before .answer2 .given .1) .well-formed)
+axioms-requires c κs =
+    let args = c .before .before .before .before .before .before .before .before .before .before .before .before .before .before .args in
+    let called = c .before .before .before .before .before .before .before .before .classify in
+    let answer = c .before .before .answer2 .given in
+    header-within
+    (done-sized (args .b .now) (args .store .now) (args .work .now) (called .result) (called .last .1 .0) (called .last .1 .1 .0) (answer .0 .0) (answer .0 .1 .0)
+    (called .ensures) (answer .1) .well-formed)
 
 print-summary-requires : tie.Need-print-summary-requires
 print-summary-requires c κs = search needs
 
 print-rows-requires : tie.Need-print-rows-requires
-print-rows-requires c κs = done-sized (c .before .before .before .before .before .before .before .before .before .before .before .before .before .before .before .before .before .args .b .now) (c .before .before .before .before .before .before .before .before .before .before .before .before .before .before .before .before .before .args .store .now) (c .before .before .before .before .before .before .before .before .before .before .before .before .before .before .before .before .before .args .work .now) (c .before .before .before .before .before .before .before .before .before .before .before .classify .result) (c .before .before .before .before .before .before .before .before .before .before .before .classify .last .1 .0) (c .before .before .before .before .before .before .before .before .before .before .before .classify .last .1 .1 .0) (c .before .before .before .before .before .answer2 .given .0 .0) (c .before .before .before .before .before .answer2 .given .0 .1 .0) (c .before .before .before .before .before .before .before .before .before .before .before .classify .ensures) (c .before .before .before .before .before .answer2 .given .1)
+print-rows-requires c κs =
+    let args = c .before .before .before .before .before .before .before .before .before .before .before .before .before .before .before .before .before .args in
+    let called = c .before .before .before .before .before .before .before .before .before .before .before .classify in
+    let answer = c .before .before .before .before .before .answer2 .given in
+    done-sized (args .b .now) (args .store .now) (args .work .now) (called .result) (called .last .1 .0) (called .last .1 .1 .0) (answer .0 .0) (answer .0 .1 .0)
+    (called .ensures) (answer .1)
 
 same-length : tie.Need-same-length
 same-length c = search needs
