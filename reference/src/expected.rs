@@ -2,7 +2,10 @@
 //! `crates/NAME/stdin` (nothing where there is no such file), and must write
 //! what `crates/NAME/stdout` holds.
 
+use crate::fixed;
+use crate::inputs;
 use crate::listing;
+use crate::programs;
 use std::fs;
 use std::io;
 use std::path::Path;
@@ -10,37 +13,57 @@ use std::path::Path;
 /// Makes a program's standard output from its standard input.
 pub type Output = fn(&[u8]) -> String;
 
-/// The program crates whose output is known here: one line each.
+/// The program crates, one line each.
 pub const PROGRAMS: &[(&str, Output)] = &[
     // crate, and what it prints
     ("listing", listing::text),
+    ("listing_empty", listing::text),
+    ("listing_long", listing::text),
+    ("listing_many", listing::text),
+    ("listing_refused", listing::text),
+    ("rows_check", fixed::rows_check),
+    ("catalogue_check", programs::catalogue_check),
+    ("structure_check", fixed::structure_check),
+    ("store_check", fixed::store_check),
+    ("closure_check", programs::closure_check),
+    ("lookups_check", programs::lookups_check),
 ];
+
+/// Writes the input of every program crate below `root` whose input is made
+/// here; one line of report for each.
+pub fn regenerate_inputs(root: &Path) -> io::Result<Vec<String>> {
+    let make = |&(name, input): &(&str, inputs::Input)| {
+        let bytes = input(&root.join("data"))?;
+        let state = replace(&root.join("crates").join(name), "stdin", &bytes)?;
+        Ok(format!("{name} {state}"))
+    };
+    inputs::PROGRAMS.iter().map(make).collect()
+}
 
 /// Writes the expected output of every known program crate below `root`; one
 /// line of report for each.
 pub fn regenerate(root: &Path) -> io::Result<Vec<String>> {
-    PROGRAMS
-        .iter()
-        .map(|&(name, output)| {
-            let state = regenerate_one(&root.join("crates").join(name), output)?;
-            Ok(format!("{name} {state}"))
-        })
-        .collect()
+    let make = |&(name, output): &(&str, Output)| {
+        let folder = root.join("crates").join(name);
+        let input = match fs::read(folder.join("stdin")) {
+            Err(error) if error.kind() == io::ErrorKind::NotFound => vec![],
+            other => other?,
+        };
+        let state = replace(&folder, "stdout", output(&input).as_bytes())?;
+        Ok(format!("{name} {state}"))
+    };
+    PROGRAMS.iter().map(make).collect()
 }
 
-fn regenerate_one(folder: &Path, output: Output) -> io::Result<&'static str> {
+/// Writes a file of a crate, if it has other bytes.
+fn replace(folder: &Path, file: &str, bytes: &[u8]) -> io::Result<&'static str> {
     if !folder.is_dir() {
         return Ok("absent");
     }
-    let input = match fs::read(folder.join("stdin")) {
-        Err(error) if error.kind() == io::ErrorKind::NotFound => vec![],
-        other => other?,
-    };
-    let text = output(&input);
-    let file = folder.join("stdout");
-    if fs::read(&file).is_ok_and(|present| present == text.as_bytes()) {
+    let file = folder.join(file);
+    if fs::read(&file).is_ok_and(|present| present == bytes) {
         return Ok("unchanged");
     }
-    fs::write(file, text)?;
+    fs::write(file, bytes)?;
     Ok("written")
 }

@@ -12,17 +12,24 @@
 //! - `store`: the bytes of a store
 //! - `calls`: the public calls, each with its checks in order
 //! - `listing`: the text of the listing program
+//! - `programs`, `fixed`: the text of the check programs
+//! - `checksum`: the checksum that they print
 //! - `examples`: built-in catalogues
+//! - `inputs`: inputs of programs
 //! - `expected`: expected outputs of programs
 
 pub mod application;
 pub mod calls;
 pub mod catalogue;
 pub mod change;
+pub mod checksum;
 pub mod examples;
 pub mod expected;
 pub mod expressions;
+pub mod fixed;
+pub mod inputs;
 pub mod listing;
+pub mod programs;
 pub mod rounds;
 pub mod rules;
 pub mod saturation;

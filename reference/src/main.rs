@@ -2,6 +2,7 @@
 //! expected outputs. An answer, also a refusal, ends with status 0.
 
 use reference::catalogue::{Catalogue, Refusal};
+use reference::checksum::fnv1a;
 use reference::{calls, examples, expected, listing};
 use std::io::{self, Read, Write};
 use std::path::Path;
@@ -12,6 +13,7 @@ const USAGE: &str = "usage:
   reference check FILE       accepted, or refused with number and record
   reference classify FILE    pairs, links and the store's checksum
   reference expected [ROOT]  write crates/NAME/stdout of known programs
+  reference inputs [ROOT]    write crates/NAME/stdin of some of them
   reference catalogue NAME   a built-in catalogue's bytes
 FILE may be - for standard input. Catalogues:";
 
@@ -22,8 +24,10 @@ fn main() -> ExitCode {
         ["list", file] => input(file).map(|bytes| listing::text(&bytes).into_bytes()),
         ["check", file] => input(file).map(|bytes| check(&bytes).into_bytes()),
         ["classify", file] => input(file).map(|bytes| classify(&bytes).into_bytes()),
-        ["expected"] => regenerate("."),
-        ["expected", root] => regenerate(root),
+        ["expected"] => expected::regenerate(Path::new(".")).map(report),
+        ["expected", root] => expected::regenerate(Path::new(root)).map(report),
+        ["inputs"] => expected::regenerate_inputs(Path::new(".")).map(report),
+        ["inputs", root] => expected::regenerate_inputs(Path::new(root)).map(report),
         ["catalogue", name] => example(name),
         _ => Err(io::Error::new(io::ErrorKind::InvalidInput, usage())),
     };
@@ -77,20 +81,9 @@ fn classify(bytes: &[u8]) -> String {
     }
 }
 
-/// FNV-1a with 64 bits.
-fn fnv1a(bytes: &[u8]) -> u64 {
-    bytes.iter().fold(0xcbf2_9ce4_8422_2325, |hash, &byte| {
-        (hash ^ u64::from(byte)).wrapping_mul(0x0100_0000_01b3)
-    })
-}
-
-fn regenerate(root: &str) -> io::Result<Vec<u8>> {
-    let lines = expected::regenerate(Path::new(root))?;
-    Ok(lines
-        .iter()
-        .map(|line| format!("{line}\n"))
-        .collect::<String>()
-        .into_bytes())
+fn report(lines: Vec<String>) -> Vec<u8> {
+    let ended = lines.iter().map(|line| format!("{line}\n"));
+    ended.collect::<String>().into_bytes()
 }
 
 fn example(name: &str) -> io::Result<Vec<u8>> {

@@ -1,97 +1,118 @@
-// Classifies W1, W7 and W8 into buffers that held other bytes, and writes the answers and the buffers; then W1 with a byte too few of each buffer.
-ghost use Prim.Native.Nat.{_≤_};
-ghost use mathlib.Core.Path.{_≡_};
+// Classifies the catalogues of its input one after the other into one store, so that each finds what others left there, and with a work space that holds
+// other bytes. Writes the answers, the checksum of the store's used part, and those of both whole buffers: what classify must not change shows there too.
+// A case: the length of the catalogue in two bytes, and the lengths of the store and of the work space that are lent in four bytes each, low byte first
+// (all of a buffer, where it is shorter); then the catalogue. The input has W1, W7, W8 and W10 of document 01, a byte too few of each buffer, and larger
+// catalogues.
+ghost use Prim.Native.Nat.{_+_, _≤_, _<_};
 ghost use lib.ListN.{length};
+ghost use Rattle.store.specs.Parts.{Sized};
+use checksum::fnv1a;
 use closure::Classified;
+use closure::classify;
+use libc::STDIN_FILENO;
 use libc::STDOUT_FILENO;
+use store::used;
 
-// Writes a number after a space.
-fn report_number(n: usize) {
-    io::write_all(STDOUT_FILENO, b" ");
-    io::print_decimal(STDOUT_FILENO, n as u64);
+// Writes a word and a number.
+fn say(word: &[u8], number: usize) {
+    io::write_all(STDOUT_FILENO, word);
+    io::print_decimal(STDOUT_FILENO, number as u64);
 }
 
-// Writes one answer as a line: the counts of pairs and links, or the number of the question and the record at fault.
-fn report(answer: Classified) {
+// Writes a word and the checksum of some bytes.
+fn say_checksum(word: &[u8], bytes: &[u8]) {
+    io::write_all(STDOUT_FILENO, word);
+    io::print_decimal(STDOUT_FILENO, fnv1a(bytes));
+}
+
+// Writes a refusal.
+fn say_refused(number: usize, record: usize) {
+    say(b"refused ", number);
+    say(b" ", record);
+}
+
+// Writes the counts of pairs and links, and the checksum of the store's used part.
+fn say_classified(b: &[u8], pairs: usize, links: usize, store: &[u8])
+    requires { ⌜ Sized (now b) (now store) ⌝ }
+{
+    let end = used(b);
+    say(b"pairs ", pairs);
+    say(b" links ", links);
+    say_checksum(b" used ", &store[..end]);
+}
+
+// Classifies a catalogue, and writes the answer.
+fn run(b: &[u8], store: &mut [u8], work: &mut [u8]) {
+    let answer = classify(b, store, work);
     match answer {
-        Classified::Done(pairs, links) => {
-            io::write_all(STDOUT_FILENO, b"classified");
-            report_number(pairs);
-            report_number(links);
-        }
-        Classified::Refused(number, at) => {
-            io::write_all(STDOUT_FILENO, b"refused");
-            report_number(number);
-            report_number(at);
-        }
+        Classified::Refused(number, record) => say_refused(number, record),
+        Classified::Done(pairs, links) => say_classified(b, pairs, links, store),
     }
-    io::write_all(STDOUT_FILENO, b"\n");
 }
 
-// Writes each byte as a number.
-fn report_numbers(bytes: &[u8]) {
+// The number at a byte of the input, in two bytes.
+fn short_at(text: &[u8], at: usize) -> usize
+    requires { ⌜ at + 1 < length (now text) ⌝ }
+    ensures { λ r. ⌜ r < 65536 ⌝ }
+{
+    catalogue::word(text, at)
+}
+
+// The number at a byte of the input, in four bytes.
+fn long_at(text: &[u8], at: usize) -> usize
+    requires { ⌜ at + 3 < length (now text) ⌝ }
+{
+    short_at(text, at) + 65536 * short_at(text, at + 2)
+}
+
+// Fills a work space with bytes that it must not hold at the end.
+fn fill(work: &mut [u8]) {
     let mut i = 0;
-    while i < bytes.len() {
-        report_number(bytes[i] as usize);
+    while i < work.len() {
+        work[i] = 90;
         i += 1;
     }
 }
 
-// Writes the bytes of a buffer as a line.
-fn report_bytes(name: &[u8], bytes: &[u8]) {
-    io::write_all(STDOUT_FILENO, name);
-    report_numbers(bytes);
+// The lesser of two numbers.
+fn least(a: usize, b: usize) -> usize
+    ensures { λ r. ⌜ r ≤ b ⌝ }
+{
+    if a < b { a } else { b }
+}
+
+// Runs the case at a byte of the input, if the input has all of it, and says where the next one starts.
+fn run_case(text: &[u8], at: usize, store: &mut [u8], work: &mut [u8]) -> usize
+    requires { ⌜ at + 10 ≤ length (now text) ⌝ }
+    ensures { λ r. ⌜ (at < r) × (r ≤ length (now (text .entry))) ⌝ }
+{
+    let start = at + 10;
+    let end = start + short_at(text, at);
+    if text.len() < end {
+        return text.len();
+    }
+    let s = least(long_at(text, at + 2), store.len());
+    let w = least(long_at(text, at + 6), work.len());
+    fill(work);
+    run(&text[start..end], &mut store[..s], &mut work[..w]);
+    say_checksum(b" store ", store);
+    say_checksum(b" work ", work);
     io::write_all(STDOUT_FILENO, b"\n");
+    end
 }
 
-// Classifies a catalogue, and writes the answer and what the buffers hold.
-fn run(b: &[u8], store: &mut [u8], work: &mut [u8]) {
-    report(closure::classify(b, store, work));
-    report_bytes(b"store", store);
-    report_bytes(b"work", work);
-}
-
-// The same with the first s and w bytes of the buffers.
-fn run_part(b: &[u8], store: &mut [u8], s: usize, work: &mut [u8], w: usize)
-    requires { ⌜ (s ≤ length (now store)) × (w ≤ length (now work)) ⌝ }
-{
-    run(b, &mut store[..s], &mut work[..w]);
-}
-
-// Classifies into buffers of 38 and 31 bytes, and into parts of them.
-fn run_worked(w1: &[u8], w7: &[u8], w8: &[u8], store: &mut [u8], work: &mut [u8])
-    requires { ⌜ (length (now store) ≡ 38) × (length (now work) ≡ 31) ⌝ }
-{
-    run_part(w1, store, 38, work, 31);
-    run_part(w7, store, 9, work, 6);
-    run_part(w8, store, 9, work, 6);
-}
-
-// A byte too few of the header, of the store and of the work space.
-fn run_refused(header: &[u8], w1: &[u8], store: &mut [u8], work: &mut [u8])
-    requires { ⌜ (length (now store) ≡ 38) × (length (now work) ≡ 31) ⌝ }
-{
-    run_part(header, store, 1, work, 1);
-    run_part(w1, store, 34, work, 31);
-    run_part(w1, store, 38, work, 27);
+// Runs the cases one after the other.
+fn run_cases(text: &[u8], store: &mut [u8], work: &mut [u8]) {
+    let mut at = 0;
+    while at + 10 <= text.len() {
+        at = run_case(text, at, store, work);
+    }
 }
 
 fn main() {
-    let w1 =
-        b"\x50\x00\x07\x00\x03\x00\x00\x00\x01\x00\x03\x00\x14\x00\x3e\x00\x3e\x00\x44\x00\x00\x00\x00\x00\x00\x00\x00\x00\x00\x00\x00\x00\x00\x00\x00\x00\x00\x00\x00\x00\x00\x00\x00\x00\x03\x00\x00\x00\x01\x00\x03\x00\x01\x00\x02\x00\x03\x00\x02\x00\x02\x00\x00\x00\x01\x00\x02\x00\x00\x00\x04\x00\x01\x00\x05\x00\x06\x00\x03\x00";
-    let mut store = [165u8; 38];
-    let mut work = [90u8; 31];
-    run_worked(
-        w1,
-        b"\x32\x00\x03\x00\x00\x00\x00\x00\x00\x00\x03\x00\x14\x00\x26\x00\x26\x00\x26\x00\x00\x00\x00\x00\x00\x00\x00\x00\x00\x00\x00\x00\x00\x00\x00\x00\x00\x00\x00\x00\x01\x00\x01\x00\x02\x00\x02\x00\x01\x00",
-        b"\x26\x00\x03\x00\x00\x00\x00\x00\x00\x00\x00\x00\x14\x00\x26\x00\x26\x00\x26\x00\x00\x00\x00\x00\x00\x00\x00\x00\x00\x00\x00\x00\x00\x00\x00\x00\x00\x00",
-        &mut store,
-        &mut work,
-    );
-    run_refused(
-        b"\x50\x00\x07\x00\x03\x00\x00\x00\x01\x00\x03\x00\x14\x00\x3e\x00\x3e\x00\x44",
-        w1,
-        &mut store,
-        &mut work,
-    );
+    let mut text = io::large_buffer();
+    let n = io::read_full(STDIN_FILENO, &mut text);
+    let mut store = [165u8; 589824];
+    let mut work = [0u8; 557056];
+    run_cases(&text[..n], &mut store, &mut work);
 }

@@ -1,12 +1,12 @@
 -- `print_rows` meets its contract. The invariant: c is at most the number of concepts.
 use Prim.Native.Nat.{_-_, _≤_}
 use borrow.Author.Needs.{needs}
-use Rattle.listing.proofs.print_rows.Statement.{statement}
-use Rattle.listing.proofs.print_rows.Tie as tie
-use Rattle.listing.proofs.print_rows.Reads as reads
-use Rattle.listing.proofs.print_rows.Lts as lts
+use Rattle.listings.proofs.print_rows.Statement.{statement}
+use Rattle.listings.proofs.print_rows.Tie as tie
+use Rattle.listings.proofs.print_rows.Reads as reads
+use Rattle.listings.proofs.print_rows.Lts as lts
 use Rattle.catalogue.proofs.concepts.Reads as concepts-reads
-use Rattle.listing.proofs.print_row.Reads as print-row-reads
+use Rattle.listings.proofs.print_row.Reads as print-row-reads
 
 abbrev Inv-loop : tie.InvT-loop
 Inv-loop b store n c₀ c = c ≤ n

@@ -1,0 +1,4 @@
+// The listing program on an empty input.
+fn main() {
+    listings::run();
+}

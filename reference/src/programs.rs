@@ -1,0 +1,131 @@
+//! The text of the check programs that read an input: what each prints for it.
+//! The input's form is said at the head of the program.
+
+use crate::calls;
+use crate::catalogue::{Catalogue, Refusal};
+use crate::checksum::fnv1a;
+use crate::store::Layout;
+
+/// The buffers of closure_check: the longest that a catalogue asks for.
+const STORE_LENGTH: usize = 589_824;
+const WORK_LENGTH: usize = 557_056;
+
+/// What is left of an input.
+struct Input<'a>(&'a [u8]);
+
+impl<'a> Input<'a> {
+    /// The next bytes.
+    fn bytes(&mut self, count: usize) -> &'a [u8] {
+        let (first, rest) = self.0.split_at(count);
+        self.0 = rest;
+        first
+    }
+
+    /// The next number, in so many bytes, low byte first.
+    fn number(&mut self, bytes: usize) -> usize {
+        let digits = self.bytes(bytes).iter().rev();
+        digits.fold(0, |number, &byte| 256 * number + usize::from(byte))
+    }
+}
+
+fn refused(refusal: Refusal) -> String {
+    format!("refused {} {}", refusal.number, refusal.record)
+}
+
+fn digits(bytes: &[u8]) -> String {
+    bytes.iter().map(|byte| format!("{byte:02x}")).collect()
+}
+
+/// The bytes that hexadecimal digits give.
+fn decoded(line: &str) -> Vec<u8> {
+    let pairs = (0..line.len() / 2).map(|k| &line[2 * k..2 * k + 2]);
+    pairs
+        .map(|pair| u8::from_str_radix(pair, 16).expect("two digits"))
+        .collect()
+}
+
+/// What questions 1 to 9 answer for each catalogue.
+pub fn catalogue_check(input: &[u8]) -> String {
+    let text = str::from_utf8(input).expect("digits");
+    text.split_terminator('\n')
+        .map(|line| match Catalogue::read(&decoded(line)) {
+            Ok(_) => "accepted\n".to_string(),
+            Err(refusal) => refused(refusal) + "\n",
+        })
+        .collect()
+}
+
+/// The answers of classify, with checksums of the buffers.
+pub fn closure_check(input: &[u8]) -> String {
+    let mut store = vec![165; STORE_LENGTH];
+    let mut work = vec![0; WORK_LENGTH];
+    let mut input = Input(input);
+    let mut lines = String::new();
+    while !input.0.is_empty() {
+        let length = input.number(2);
+        let store_lent = input.number(4).min(STORE_LENGTH);
+        let work_lent = input.number(4).min(WORK_LENGTH);
+        let catalogue = input.bytes(length);
+        work.fill(90);
+        lines += &classified(catalogue, &mut store[..store_lent], &mut work[..work_lent]);
+        lines += &format!(" store {} work {}\n", fnv1a(&store), fnv1a(&work));
+    }
+    lines
+}
+
+fn classified(catalogue: &[u8], store: &mut [u8], work: &mut [u8]) -> String {
+    let answer = calls::classify(catalogue, store, work);
+    let read = Catalogue::read(catalogue);
+    match answer.and_then(|counts| Ok((counts, Layout::new(&read?)))) {
+        Ok((counts, layout)) => {
+            let used = fnv1a(&store[..layout.store_length()]);
+            format!("pairs {} links {} used {used}", counts.pairs, counts.links)
+        }
+        Err(refusal) => refused(refusal),
+    }
+}
+
+/// The answers of lookup, listing and row.
+pub fn lookups_check(input: &[u8]) -> String {
+    let mut input = Input(input);
+    let mut lines = String::new();
+    while !input.0.is_empty() {
+        let [call, c, d, list, catalogue, store] = [(); 6].map(|()| input.number(2));
+        let mut list = vec![195; list];
+        let catalogue = input.bytes(catalogue);
+        let store = input.bytes(store);
+        lines += &match call {
+            0 => looked_up(catalogue, c, d, store),
+            1 => listed(catalogue, d, store, &mut list),
+            _ => row(catalogue, c, store),
+        };
+        lines += "\n";
+    }
+    lines
+}
+
+fn looked_up(catalogue: &[u8], c: usize, d: usize, store: &[u8]) -> String {
+    match calls::lookup(catalogue, c, d, store) {
+        Ok(true) => "yes".to_string(),
+        Ok(false) => "no".to_string(),
+        Err(refusal) => refused(refusal),
+    }
+}
+
+fn listed(catalogue: &[u8], d: usize, store: &[u8], list: &mut [u8]) -> String {
+    let answer = match calls::listing(catalogue, d, store, list) {
+        Ok(count) => format!("listed {count}"),
+        Err(refusal) => refused(refusal),
+    };
+    format!("{answer} {}", digits(list))
+}
+
+fn row(catalogue: &[u8], c: usize, store: &[u8]) -> String {
+    match calls::row(catalogue, c, store) {
+        Ok(row) => {
+            let width = row.bytes.len();
+            format!("row {} {width} {}", row.offset, digits(row.bytes))
+        }
+        Err(refusal) => refused(refusal) + " ",
+    }
+}
