@@ -1,0 +1,6 @@
+pub mod AfterClassify
+pub mod Lookup
+pub mod Listing
+pub mod Row
+pub mod Write
+pub mod ClassifyWritten
