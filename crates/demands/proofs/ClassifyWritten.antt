@@ -13,7 +13,7 @@ use Rattle.catalogue.specs.WellFormed.{WellFormed}
 use Rattle.catalogue.proofs.Outcomes.{ask-accepted}
 use Rattle.catalogue.proofs.Passed.{after-accepted, after-refused}
 use Rattle.catalogue.proofs.Accepted.{accepted-well-formed}
-use Rattle.rules.specs.Axioms.{Axioms, InRange, catalogueAxioms}
+use Rattle.rules.specs.Axioms.{Axioms, catalogueAxioms}
 use Rattle.store.specs.Parts.{width, used, workUsed, inForce, spareClear}
 use Rattle.store.specs.Fresh.{Fresh}
 use Rattle.store.specs.Checks.{storeFits, workFits, axiomsInLimit, askStore, askSpare, askLimit}
@@ -23,13 +23,13 @@ use Rattle.store.proofs.Fresh.{fresh-unique}
 use Rattle.store.proofs.SameRules.{used-same, fresh-written}
 use Rattle.store.proofs.StoreRows.{in-force-range}
 use Rattle.store.proofs.Written.{written-same, written-accepted, written-axioms}
-use Rattle.writing.specs.Write.{outputFits, storeChecks, writeChecks, ByOutcome, wrote, stays, Writes}
+use Rattle.writing.specs.Write.{storeChecks, writeChecks, ByOutcome, wrote, stays}
 use Rattle.writing.specs.declared.Wrote.{Wrote}
 use Rattle.writing.specs.declared.Wrote.the-variants.{Length}
 use Rattle.closure.specs.Classified.{classifyChecks}
 use Rattle.closure.proofs.Checks.{never-both, all-accepted}
-use Rattle.demands.specs.Demands.{ClassifiesAfresh, ClassifiesAlike, FreshByClassify, WriteThenClassify, ClassifyWriteClassify}
-use Rattle.demands.proofs.AfterClassify.{ClassifiedStore, after-classify, in-force-own}
+use Rattle.demands.specs.Demands.{ClassifiesAfresh, FreshByClassify, WriteThenClassify, ClassifyWriteClassify}
+use Rattle.demands.proofs.AfterClassify.{after-classify, in-force-own}
 
 work-same : (b w : List ℕ) → SameRecords b w → workUsed w ≡ workUsed b
 unfolding workUsed width
@@ -45,7 +45,10 @@ fresh-by-classify b F catalogue range few =
     let ws = work-same b (written b F) m in
     let own : catalogueAxioms (written b F) ≡ F = fun-ext (λ c. fun-ext (λ d. written-axioms b F wf range c d)) in
     let ok : (s k : ℕ) → used b ≤ s → workUsed b ≤ k → classifyChecks (written b F) s k ≡ accepted =
-    λ s k ls lk. all-accepted (written b F) s k (written-accepted b F wf few) (le-leb (used (written b F)) s (omega (arith, us))) (le-leb (workUsed (written b F)) k (omega (arith, ws)))
+    λ s k ls lk.
+    all-accepted (written b F) s k (written-accepted b F wf few)
+    (le-leb (used (written b F)) s (omega (arith, us)))
+    (le-leb (workUsed (written b F)) k (omega (arith, ws)))
     in
     record {
       same-used = us;
@@ -59,7 +62,9 @@ fresh-by-classify b F catalogue range few =
 -- ---- what an accepted write says
 
 by-length : (b store output : List ℕ) (o : Outcome) (answer : Wrote) (k : ℕ) (output' : List ℕ) → ByOutcome b store output o answer output' → answer ≡ Length k
-    → (o ≡ accepted) × (k ≡ length (written b (inForce b store))) × (output' ≡ written b (inForce b store) ++ drop (length (written b (inForce b store))) output)
+    → (o ≡ accepted)
+    × (k ≡ length (written b (inForce b store)))
+    × (output' ≡ written b (inForce b store) ++ drop (length (written b (inForce b store))) output)
 by-length b store output o answer k output' (wrote e) q = (refl, cc, e)
 by-length b store output o answer k output' stays q = let z : _≡_ {A = ℕ} 0 1 = cc in absurd (let n : ⊥ = omega arith in n)
 

@@ -4,3 +4,5 @@ pub mod Listing
 pub mod Row
 pub mod Write
 pub mod ClassifyWritten
+pub mod Computed
+pub mod Examples

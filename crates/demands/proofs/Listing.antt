@@ -3,8 +3,6 @@ use Prim.Native.Nat.{ℕ, zero, suc, _+_, _*_, _%_, _/_, _<_}
 use native.Mathlib.Nat.{not-suc-le-zero, le-of-suc-le-suc}
 use native.Mathlib.Omega.{arith}
 use mathlib.Core.Path.{_≡_, refl, sym, ap, ap₂, subst, _∙_}
-use mathlib.Core.Bool.{true}
-use mathlib.Core.Logic.{_↔_}
 use mathlib.Core.List.{List, [], _∷_, _++_}
 use lib.ListN.{length, getD, drop}
 use Rattle.catalogue.specs.Header.{concepts}
@@ -17,7 +15,6 @@ use Rattle.store.specs.Parts.{inForce}
 use Rattle.store.proofs.Rising.{rising-lists}
 use Rattle.lookups.specs.Checks.{listChecks}
 use Rattle.lookups.specs.Listings.{atomicUnder, kindsUnder, withFront, listed, listAfter, Lists}
-use Rattle.lookups.specs.Meaning.{KindUnder}
 use Rattle.lookups.specs.declared.kinds.Listed.{Listed}
 use Rattle.lookups.specs.declared.kinds.Listed.the-variants.{Count, Refused}
 use Rattle.lookups.proofs.Acceptance.{every-one, list-named}

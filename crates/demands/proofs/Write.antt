@@ -1,37 +1,32 @@
 -- Classify, then write.
-use Prim.Native.Nat.{ℕ, _+_, _*_, _≤_, _<_}
+use Prim.Native.Nat.{ℕ}
 use native.Mathlib.Omega.{arith}
-use mathlib.Core.Path.{_≡_, refl, sym, ap, ap₂, subst, _∙_}
+use mathlib.Core.Path.{_≡_, refl, ap, ap₂, subst, _∙_}
 use mathlib.Core.List.{List, _++_}
 use lib.ListN.{length, drop}
 use borrow.Author.Tests.{le-leb, lt-leb}
-use Rattle.catalogue.specs.Header.{axiomsAt}
-use Rattle.catalogue.specs.Outcome.{Outcome, accepted, refused, ask}
+use Rattle.catalogue.specs.Outcome.{Outcome, accepted, ask}
 use Rattle.catalogue.proofs.Outcomes.{ask-yes, ask-no}
 use Rattle.catalogue.proofs.Passed.{after-accepted}
 use Rattle.rules.specs.Axioms.{Axioms, catalogueAxioms}
 use Rattle.store.specs.Parts.{inForce}
 use Rattle.store.specs.Checks.{storeFits, askStore, askSpare, askLimit, axiomsInLimit}
-use Rattle.store.specs.Written.{axiomCount, written}
+use Rattle.store.specs.Written.{written}
 use Rattle.store.proofs.AxiomCounts.{catalogue-count}
 use Rattle.store.proofs.Checks.{few-axioms}
-use Rattle.store.proofs.Written.{length-written, written-accepted, written-axioms}
+use Rattle.store.proofs.Written.{length-written, written-same, written-accepted, written-axioms}
 use Rattle.writing.specs.Write.{outputFits, storeChecks, writeChecks, ByOutcome, wrote, stays, Writes}
 use Rattle.writing.specs.declared.Wrote.{Wrote}
-use Rattle.writing.specs.declared.Wrote.the-variants.{Length, Refused}
+use Rattle.writing.proofs.Unique.{by-outcome-unique}
+use Rattle.writing.specs.declared.Wrote.the-variants.{Length}
 use Rattle.demands.specs.Demands.{WritesBack, ClassifyThenWrite}
 use Rattle.demands.proofs.AfterClassify.{ClassifiedStore, after-classify, in-force-own}
 
 -- What an outcome leaves.
-by-accepted : (b store output : List ℕ) (o : Outcome) (answer : Wrote) (output' : List ℕ) → ByOutcome b store output o answer output' → o ≡ accepted
-    → (answer ≡ Length (length (written b (inForce b store)))) × (output' ≡ written b (inForce b store) ++ drop (length (written b (inForce b store))) output)
-by-accepted b store output o answer output' (wrote e) q = (refl, e)
-by-accepted b store output o answer output' stays q = let z : _≡_ {A = ℕ} 0 1 = cc in absurd (let n : ⊥ = omega arith in n)
-
-by-refused : (b store output : List ℕ) (o : Outcome) (answer : Wrote) (output' : List ℕ) {number at : ℕ} → ByOutcome b store output o answer output'
-    → o ≡ refused number at → (answer ≡ Refused number at) × (output' ≡ output)
-by-refused b store output o answer output' (wrote e) q = let z : _≡_ {A = ℕ} 0 1 = cc in absurd (let n : ⊥ = omega arith in n)
-by-refused b store output o answer output' stays q = (cc, refl)
+by-outcome : (b store output : List ℕ) {o o' : Outcome} {answer answer' : Wrote} {output' output'' : List ℕ}
+    → ByOutcome b store output o answer output' → o ≡ o' → ByOutcome b store output o' answer' output'' → (answer ≡ answer') × (output' ≡ output'')
+by-outcome b store output {o' = o'} {answer} {answer'} {output'} {output''} w e v =
+    by-outcome-unique b store output o' answer answer' output' output'' (subst (λ (o : Outcome). ByOutcome b store output o answer output') e w) v
 
 module _ (b store : List ℕ) (u : ClassifiedStore b store) (output : List ℕ) (answer : Wrote) (output' : List ℕ) (w : Writes b store output answer output') where
   -- 20 alone is left to ask.
@@ -63,15 +58,16 @@ module _ (b store : List ℕ) (u : ClassifiedStore b store) (output : List ℕ) 
         same-length = long;
         fits = λ l.
             let yes-20 = ask-yes 20 0 accepted (le-leb (length (written b (inForce b store))) (length output) (omega (arith, long-stored))) in
-            let (e, f) = by-accepted b store output (writeChecks b store (length output)) answer output' w (asks ∙ yes-20) in (
+            let (e, f) = by-outcome b store output w (asks ∙ yes-20) (wrote refl) in (
               e ∙ ap Length long-stored,
               f ∙ ap₂ (λ (F : Axioms) (k : ℕ). written b F ++ drop k output) (in-force-own b store u) long-stored,
             );
         short = λ l.
             let no-20 = ask-no 20 0 accepted (lt-leb (length (written b (inForce b store))) (length output) (omega (arith, long-stored))) in
-            by-refused b store output (writeChecks b store (length output)) answer output' w (asks ∙ no-20);
+            by-outcome b store output w (asks ∙ no-20) stays;
         accepts = written-accepted b (catalogueAxioms b) (u .well-formed) (u .few);
         same-axioms = written-axioms b (catalogueAxioms b) (u .well-formed) (u .range);
+        same-records = written-same b (catalogueAxioms b) (u .well-formed);
       }
 
 pub classify-then-write : ClassifyThenWrite

@@ -17,7 +17,7 @@ use Rattle.rules.specs.Occurrence.{Occurs}
 use Rattle.rules.specs.Models.{Entails, Refuted}
 use Rattle.store.specs.Parts.{width, used, workUsed, inForce}
 use Rattle.store.specs.Fresh.{Fresh}
-use Rattle.store.specs.Written.{axiomCount, written}
+use Rattle.store.specs.Written.{axiomCount, written, SameRecords}
 use Rattle.lookups.specs.Answers.{lookedUp}
 use Rattle.lookups.specs.Listings.{kindsUnder, withFront, Lists}
 use Rattle.lookups.specs.Rows.{pairOffset, rowAnswer, HandsOut}
@@ -96,13 +96,14 @@ ClassifyThenRow =
 -- ---- write
 
 -- Catalogue w, written for b: no question but 20 is answered no, and 20 exactly where the output is shorter than b. Written, w stands in front and
--- the bytes beyond it stay; it is as long as b, is accepted by questions 1 to 9, and has b's axioms.
+-- the bytes beyond it stay; it is as long as b, is accepted by questions 1 to 9, and has b's axioms and other records.
 pub record WritesBack (b w output : List ℕ) (answer : Wrote) (output' : List ℕ) : Type 0 where
   pub same-length : length w ≡ length b
   pub fits : length b ≤ length output → (answer ≡ writes.Length (length b)) × (output' ≡ w ++ drop (length b) output)
   pub short : length output < length b → (answer ≡ writes.Refused 20 0) × (output' ≡ output)
   pub accepts : checked w ≡ accepted
   pub same-axioms : (c d : ℕ) → catalogueAxioms w c d ≡ catalogueAxioms b c d
+  pub same-records : SameRecords b w
 
 abbrev pub ClassifyThenWrite : Type 0
 ClassifyThenWrite =
