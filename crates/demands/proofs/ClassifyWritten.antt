@@ -1,0 +1,109 @@
+-- Classify of what was written.
+use Prim.Native.Nat.{ℕ, _+_, _*_, _/_, _≤_}
+use native.Mathlib.Omega.{arith}
+use mathlib.Core.Path.{_≡_, refl, sym, ap, ap₂, subst, fun-ext, _∙_}
+use mathlib.Core.Bool.{true}
+use mathlib.Core.List.{List, _++_}
+use lib.ListN.{length, take, drop}
+use lib.Seq.{take-at}
+use borrow.Author.Tests.{le-leb}
+use Rattle.catalogue.specs.Outcome.{Outcome, accepted, refused}
+use Rattle.catalogue.specs.Checks.{checked}
+use Rattle.catalogue.specs.WellFormed.{WellFormed}
+use Rattle.catalogue.proofs.Outcomes.{ask-accepted}
+use Rattle.catalogue.proofs.Passed.{after-accepted, after-refused}
+use Rattle.catalogue.proofs.Accepted.{accepted-well-formed}
+use Rattle.rules.specs.Axioms.{Axioms, catalogueAxioms}
+use Rattle.store.specs.Parts.{width, used, workUsed, inForce, spareClear}
+use Rattle.store.specs.Fresh.{Fresh}
+use Rattle.store.specs.Checks.{storeFits, workFits, axiomsInLimit, askStore, askSpare, askLimit}
+use Rattle.store.specs.Written.{axiomCount, written, SameRecords}
+use Rattle.store.proofs.Checks.{axioms-few}
+use Rattle.store.proofs.Fresh.{fresh-unique}
+use Rattle.store.proofs.SameRules.{used-same, fresh-written}
+use Rattle.store.proofs.StoreRows.{in-force-range}
+use Rattle.store.proofs.Written.{written-same, written-accepted, written-axioms}
+use Rattle.writing.specs.Write.{storeChecks, writeChecks, ByOutcome, wrote, stays}
+use Rattle.writing.specs.declared.Wrote.{Wrote}
+use Rattle.writing.specs.declared.Wrote.the-variants.{Length}
+use Rattle.closure.specs.Classified.{classifyChecks}
+use Rattle.closure.proofs.Checks.{never-both, all-accepted}
+use Rattle.demands.specs.Demands.{ClassifiesAfresh, FreshByClassify, WriteThenClassify, ClassifyWriteClassify}
+use Rattle.demands.proofs.AfterClassify.{after-classify, in-force-own}
+
+work-same : (b w : List ℕ) → SameRecords b w → workUsed w ≡ workUsed b
+unfolding workUsed width
+work-same b w m = ap₂ (λ (n r : ℕ). n * ((n + 7) / 8) * (r + 1)) (m .concepts-same) (m .roles-same)
+
+-- The catalogue with F as its axioms.
+pub fresh-by-classify : FreshByClassify
+unfolding storeFits workFits
+fresh-by-classify b F catalogue range few =
+    let wf : WellFormed b = accepted-well-formed catalogue in
+    let m = written-same b F wf in
+    let us = used-same b (written b F) m in
+    let ws = work-same b (written b F) m in
+    let own : catalogueAxioms (written b F) ≡ F = fun-ext (λ c. fun-ext (λ d. written-axioms b F wf range c d)) in
+    let ok : (s k : ℕ) → used b ≤ s → workUsed b ≤ k → classifyChecks (written b F) s k ≡ accepted =
+    λ s k ls lk.
+    all-accepted (written b F) s k (written-accepted b F wf few)
+    (le-leb (used (written b F)) s (omega (arith, us)))
+    (le-leb (workUsed (written b F)) k (omega (arith, ws)))
+    in
+    record {
+      same-used = us;
+      same-work = ws;
+      accepts = ok;
+      leaves = λ store work answer store' work' ls lk call.
+          fresh-written b F store' wf range few .1
+          (subst (λ (G : Axioms). Fresh (written b F) G store') own (call .accepts (ok (length store) (length work) ls lk) .fresh));
+    }
+
+-- ---- what an accepted write says
+
+by-length : (b store output : List ℕ) (o : Outcome) (answer : Wrote) (k : ℕ) (output' : List ℕ) → ByOutcome b store output o answer output' → answer ≡ Length k
+    → (o ≡ accepted)
+    × (k ≡ length (written b (inForce b store)))
+    × (output' ≡ written b (inForce b store) ++ drop (length (written b (inForce b store))) output)
+by-length b store output o answer k output' (wrote e) q = (refl, cc, e)
+by-length b store output o answer k output' stays q = let z : _≡_ {A = ℕ} 0 1 = cc in absurd (let n : ⊥ = omega arith in n)
+
+-- Accepted by 1 to 9, 13 and 14.
+record Written (b store : List ℕ) : Type 0 where
+  catalogue : checked b ≡ accepted
+  spare : spareClear b store ≡ true
+  few : axiomCount b (inForce b store) ≤ 4096
+
+asked : (b store : List ℕ) (long : ℕ) → writeChecks b store long ≡ accepted → Written b store
+unfolding writeChecks storeChecks askStore askSpare askLimit
+asked b store long e = go (checked b) refl
+  where
+    go : (o : Outcome) → checked b ≡ o → Written b store
+    go accepted q =
+        let ten = ask-accepted (storeFits b (length store)) 10 0 _ (sym (after-accepted b _ q) ∙ e) in
+        let thirteen = ask-accepted (spareClear b store) 13 0 _ (ten .1) in
+        let fourteen = ask-accepted (axiomsInLimit b (inForce b store)) 14 0 _ (thirteen .1) in
+        record { catalogue = q; spare = thirteen .0; few = axioms-few b (inForce b store) (fourteen .0) }
+    go (refused number at) q = absurd (never-both _ e (after-refused b _ q))
+
+pub written-classifies-alike : WriteThenClassify
+written-classifies-alike b store output k output' fresh w =
+    let (o, l, e) = by-length b store output (writeChecks b store (length output)) (Length k) k output' w refl in
+    let p = asked b store (length output) o in
+    let wf : WellFormed b = accepted-well-formed (p .catalogue) in
+    let front : written b (inForce b store) ≡ take k output' = sym (ap (take k) e ∙ take-at _ _ k (sym l)) in
+    let afresh : ClassifiesAfresh b (inForce b store) (take k output') =
+    subst (ClassifiesAfresh b (inForce b store)) front (fresh-by-classify b (inForce b store) (p .catalogue) (in-force-range b store (p .spare)) (p .few))
+    in (
+      afresh,
+      λ store2 work answer store2' work' ls lk call.
+          fresh-unique b (inForce b store) (inForce b store) store2' store wf (λ c d. refl) (afresh .leaves store2 work answer store2' work' ls lk call) fresh,
+    )
+
+pub classify-write-classify : ClassifyWriteClassify
+classify-write-classify =
+    after-classify _
+    (λ b store u output k output' w.
+    let own = sym (in-force-own b store u) in
+    let (afresh, alike) = written-classifies-alike b store output k output' (subst (λ (F : Axioms). Fresh b F store) own (u .fresh)) w in
+    (subst (λ (F : Axioms). ClassifiesAfresh b F (take k output')) (sym own) afresh, alike))

@@ -1,0 +1,149 @@
+-- What several calls give together, said of their contracts: lookup, listing, row and write after an accepted classify, and classify of what write gave.
+-- Every call gets the catalogue that classify got (document 01, Edits in a row), and what they answer is said by that catalogue's axioms.
+use Prim.Native.Nat.{ℕ, suc, _*_, _≤_, _<_}
+use mathlib.Core.Path.{_≡_}
+use mathlib.Core.Bool.{Bool, true, false}
+use mathlib.Core.Logic.{_↔_, _⊎_}
+use mathlib.Core.List.{List, [], _++_}
+use lib.ListN.{length, getD, take, drop}
+use denote.Ref.{RefT, now}
+use Rattle.catalogue.specs.Header.{concepts}
+use Rattle.catalogue.specs.Words.{word}
+use Rattle.catalogue.specs.Outcome.{accepted}
+use Rattle.catalogue.specs.Checks.{checked}
+use Rattle.rows.specs.Bits.{bit}
+use Rattle.rules.specs.Axioms.{InRange, catalogueAxioms}
+use Rattle.rules.specs.Occurrence.{Occurs}
+use Rattle.rules.specs.Models.{Entails, Refuted}
+use Rattle.store.specs.Parts.{width, used, workUsed, inForce}
+use Rattle.store.specs.Fresh.{Fresh}
+use Rattle.store.specs.Written.{axiomCount, written, SameRecords}
+use Rattle.lookups.specs.Answers.{lookedUp}
+use Rattle.lookups.specs.Listings.{kindsUnder, withFront, Lists}
+use Rattle.lookups.specs.Rows.{pairOffset, rowAnswer, HandsOut}
+use Rattle.lookups.specs.Meaning.{LookupMeans, KindUnder, ListingMeans}
+use Rattle.lookups.specs.declared.pairs.Looked.{Looked}
+use Rattle.lookups.specs.declared.pairs.Looked.the-variants.{Yes, No}
+use Rattle.lookups.specs.declared.kinds.Listed.{Listed}
+use Rattle.lookups.specs.declared.kinds.Listed.the-variants as lists
+use Rattle.lookups.specs.declared.handing.Handed.{Handed}
+use Rattle.lookups.specs.declared.handing.Handed.the-variants as hands
+use Rattle.writing.specs.Write.{Writes}
+use Rattle.writing.specs.declared.Wrote.{Wrote}
+use Rattle.writing.specs.declared.Wrote.the-variants as writes
+use Rattle.closure.specs.Classified.{classifyChecks, Classifies}
+use Rattle.closure.specs.declared.Classified.{Classified}
+
+-- After an accepted classify of any catalogue, whatever the store and the work space held: P of the catalogue and of the store that is left.
+abbrev pub AfterClassify : (List ℕ → List ℕ → Type 0) → Type 0
+AfterClassify P =
+    (b store work : List ℕ) (answer : Classified) (store' work' : List ℕ)
+    → Classifies b store work answer store' work' → classifyChecks b (length store) (length work) ≡ accepted → P b store'
+
+-- ---- lookup
+
+-- A lookup from that store means what demands 1 and 2 say.
+abbrev pub ClassifyThenLookup : Type 0
+ClassifyThenLookup = AfterClassify (λ b store. (c d : ℕ) (r : Looked) → r ≡ lookedUp b c d store → LookupMeans b (catalogueAxioms b) c d r)
+
+-- Of two concepts that occur it is never refused: it is yes where the first lies within the second in every finite interpretation, or no where one
+-- refutes it.
+abbrev pub ClassifyThenAnswered : Type 0
+ClassifyThenAnswered =
+    AfterClassify
+    (λ b store.
+    (c d : ℕ) → Occurs b (catalogueAxioms b) c → Occurs b (catalogueAxioms b) d
+    → ((lookedUp b c d store ≡ Yes) × Entails b (catalogueAxioms b) c d) ⊎ ((lookedUp b c d store ≡ No) × Refuted b (catalogueAxioms b) c d))
+
+-- ---- listing
+
+-- A listing under D by the axioms F, with its list before and after, where the names are listed: they rise. Accepted, they stand in front, two bytes
+-- each, and what is past them stays: the entries are exactly the atomic kinds that occur and lie under D. Refused, the list keeps its bytes.
+pub record ListingFinds (b : List ℕ) (F : ℕ → ℕ → Bool) (d : ℕ) (names list : List ℕ) (r : Listed) (after : List ℕ) : Type 0 where
+  pub means : ListingMeans b F d (length list) r names
+  pub rises : (i : ℕ) → suc i < length names → getD names i 0 < getD names (suc i) 0
+  pub front : (k : ℕ) → r ≡ lists.Count k → (k ≡ length names) × (after ≡ withFront names list)
+  pub entries : (k : ℕ) → r ≡ lists.Count k → (c : ℕ) → ((i : ℕ) × (i < k) × (word after (2 * i) ≡ c)) ↔ KindUnder b F d c
+  pub keeps : (number at : ℕ) → r ≡ lists.Refused number at → after ≡ list
+
+abbrev pub ClassifyThenListing : Type 0
+ClassifyThenListing =
+    AfterClassify
+    (λ b store.
+    (d : ℕ) (list : List ℕ) (r : Listed) (after : List ℕ) → Lists b d store list r after
+    → ListingFinds b (catalogueAxioms b) d (kindsUnder b d store) list r after)
+
+-- ---- row
+
+-- The row of C by the axioms F: handed out exactly if C occurs. Its bit D is set exactly where C lies within D in every finite interpretation, and
+-- clear exactly where one refutes it, for D that occurs; for any other D it is clear. 19 exactly if C is a concept and does not occur, 15 exactly
+-- if it is none; the part is then empty.
+pub record RowMeans (b : List ℕ) (F : ℕ → ℕ → Bool) (c : ℕ) (answer : Handed) (part : List ℕ) : Type 0 where
+  pub hands-out : (answer ≡ hands.Row (pairOffset b c) (width b)) ↔ Occurs b F c
+  pub bits : Occurs b F c → (d : ℕ) → Occurs b F d → ((bit part d ≡ true) ↔ Entails b F c d) × ((bit part d ≡ false) ↔ Refuted b F c d)
+  pub others : (d : ℕ) → ¬ (Occurs b F d) → bit part d ≡ false
+  pub absent : (answer ≡ hands.Refused 19 0) ↔ ((c < concepts b) × ¬ (Occurs b F c))
+  pub outside : (answer ≡ hands.Refused 15 0) ↔ ¬ (c < concepts b)
+  pub empty : ¬ (Occurs b F c) → part ≡ []
+
+abbrev pub ClassifyThenRow : Type 0
+ClassifyThenRow =
+    AfterClassify
+    (λ b left.
+    (c : ℕ) (store part : RefT (List ℕ)) (answer : Handed) → now store ≡ left → HandsOut b c store part → answer ≡ rowAnswer b c (now store)
+    → RowMeans b (catalogueAxioms b) c answer (now part))
+
+-- ---- write
+
+-- Catalogue w, written for b: no question but 20 is answered no, and 20 exactly where the output is shorter than b. Written, w stands in front and
+-- the bytes beyond it stay; it is as long as b, is accepted by questions 1 to 9, and has b's axioms and other records.
+pub record WritesBack (b w output : List ℕ) (answer : Wrote) (output' : List ℕ) : Type 0 where
+  pub same-length : length w ≡ length b
+  pub fits : length b ≤ length output → (answer ≡ writes.Length (length b)) × (output' ≡ w ++ drop (length b) output)
+  pub short : length output < length b → (answer ≡ writes.Refused 20 0) × (output' ≡ output)
+  pub accepts : checked w ≡ accepted
+  pub same-axioms : (c d : ℕ) → catalogueAxioms w c d ≡ catalogueAxioms b c d
+  pub same-records : SameRecords b w
+
+abbrev pub ClassifyThenWrite : Type 0
+ClassifyThenWrite =
+    AfterClassify
+    (λ b store.
+    (output : List ℕ) (answer : Wrote) (output' : List ℕ) → Writes b store output answer output'
+    → WritesBack b (written b (catalogueAxioms b)) output answer output')
+
+-- ---- classify of what was written
+
+-- Catalogue w in place of b: it asks for buffers as long as b does and is accepted with them, and classify of it leaves a store that is fresh
+-- for F under b.
+pub record ClassifiesAfresh (b : List ℕ) (F : ℕ → ℕ → Bool) (w : List ℕ) : Type 0 where
+  pub same-used : used w ≡ used b
+  pub same-work : workUsed w ≡ workUsed b
+  pub accepts : (storeLength workLength : ℕ) → used b ≤ storeLength → workUsed b ≤ workLength → classifyChecks w storeLength workLength ≡ accepted
+  pub leaves : (store work : List ℕ) (answer : Classified) (store' work' : List ℕ)
+      → used b ≤ length store → workUsed b ≤ length work → Classifies w store work answer store' work' → Fresh b F store'
+
+-- Classified afresh from F: classify leaves just this when lent the catalogue with F as its axioms (document 01, Edits in a row).
+abbrev pub FreshByClassify : Type 0
+FreshByClassify =
+    (b : List ℕ) (F : ℕ → ℕ → Bool) → checked b ≡ accepted → InRange b F → axiomCount b F ≤ 4096 → ClassifiesAfresh b F (written b F)
+
+-- Classify of w, with a store and a work space of any content that are long enough, leaves the used part of this store.
+abbrev pub ClassifiesAlike : (b store w : List ℕ) → Type 0
+ClassifiesAlike b left w =
+    (store work : List ℕ) (answer : Classified) (store' work' : List ℕ)
+    → used b ≤ length store → workUsed b ≤ length work → Classifies w store work answer store' work' → take (used b) store' ≡ take (used b) left
+
+-- What write gave from a fresh store, classified, gives the same used part: from any store that is fresh for the axioms in force in it, and so from
+-- one that classify left.
+abbrev pub WriteThenClassify : Type 0
+WriteThenClassify =
+    (b store output : List ℕ) (k : ℕ) (output' : List ℕ) → Fresh b (inForce b store) store → Writes b store output (writes.Length k) output'
+    → ClassifiesAfresh b (inForce b store) (take k output') × ClassifiesAlike b store (take k output')
+
+abbrev pub ClassifyWriteClassify : Type 0
+ClassifyWriteClassify =
+    AfterClassify
+    (λ b store.
+    (output : List ℕ) (k : ℕ) (output' : List ℕ) → Writes b store output (writes.Length k) output'
+    → ClassifiesAfresh b (catalogueAxioms b) (take k output') × ClassifiesAlike b store (take k output'))

@@ -1,0 +1,1 @@
+// What several calls give together, proved about their contracts.
