@@ -1,5 +1,6 @@
 //! Times of classify.
 
+use super::counting::{self, Scratch};
 use super::data::{self, Named};
 use bench::{calls, plain};
 use reference::catalogue::Catalogue;
@@ -8,8 +9,8 @@ use std::path::Path;
 use std::time::Instant;
 
 /// Runs of each catalogue: as many as these milliseconds hold, in these limits.
-const MILLISECONDS: f64 = 3000.0;
-const LEAST_RUNS: f64 = 4.0;
+const MILLISECONDS: f64 = 5000.0;
+const LEAST_RUNS: f64 = 6.0;
 const MOST_RUNS: f64 = 300.0;
 
 const FILES: [&str; 9] = [
@@ -81,5 +82,36 @@ pub fn time(files: &[&str]) {
     } else {
         let paths = files.iter().map(Path::new);
         paths.for_each(|path| time_one(&data::at(path)));
+    }
+}
+
+/// Classifies a file once, by the library or by plain Rust.
+pub fn once(side: &str, file: &str) {
+    let Named { bytes, .. } = data::at(Path::new(file));
+    if side == "library" {
+        let layout = Layout::new(&Catalogue::read(&bytes).expect("an accepted catalogue"));
+        let mut store = vec![165; layout.store_length()];
+        let mut work = vec![90; layout.work_length()];
+        calls::classify(&bytes, &mut store, &mut work).expect("accepted");
+    } else {
+        std::hint::black_box(plain::classify(&bytes));
+    }
+}
+
+/// Instructions of classify of the files in `data`.
+pub fn instructions() {
+    println!("classify, millions of instructions, by callgrind:\n");
+    println!("| catalogue | library | plain Rust | ratio |");
+    println!("|---|---|---|---|");
+    for name in FILES {
+        let scratch = Scratch::new();
+        let file = scratch.file("catalogue", &data::file(name).bytes);
+        let count = |side: &str, function: &str| {
+            1e-6 * counting::instructions(function, &["once", side, &file]) as f64
+        };
+        let library = count("library", "girvotal_classify");
+        let other = count("plain", "bench::plain::classify::classify*");
+        let ratio = library / other;
+        println!("| {name} | {library:.3} | {other:.3} | {ratio:.2} |");
     }
 }

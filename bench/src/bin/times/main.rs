@@ -3,9 +3,10 @@
 //!     times                     classify of the files in ../data, then reading
 //!     times classify [FILE..]   classify of these files, or of those in ../data
 //!     times reading             lookup, listing, row and write: nanoseconds
-//!     times instructions        the same: instructions, counted by callgrind
+//!     times instructions        both: instructions, counted by callgrind
 
 mod classify;
+mod counting;
 mod data;
 mod reading;
 
@@ -20,8 +21,14 @@ fn main() {
         }
         ["classify", ref files @ ..] => classify::time(files),
         ["reading"] => reading::times(),
-        ["instructions"] => reading::instructions(),
-        ["repeat", ref case @ ..] => reading::repeat(case),
+        ["instructions"] => {
+            classify::instructions();
+            println!();
+            reading::instructions();
+        }
+        // What callgrind runs.
+        ["read", ref case @ ..] => reading::repeat(case),
+        ["once", side, file] => classify::once(side, file),
         _ => eprintln!("times [classify [FILE..] | reading | instructions]"),
     }
 }

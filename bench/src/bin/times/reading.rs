@@ -1,14 +1,14 @@
 //! What the calls that read a store cost, and each of their questions: a call
 //! that is refused by a question has paid for it and for those before it.
 
+use super::counting::{self, Scratch};
 use super::data::{self, Named};
 use bench::plain::reading as plain;
 use bench::{calls, exported};
 use reference::catalogue::{Catalogue, MAX_AXIOMS};
 use reference::store::Layout;
 use std::hint::black_box;
-use std::path::{Path, PathBuf};
-use std::process::Command;
+use std::path::Path;
 use std::time::Instant;
 
 const FILES: [&str; 4] = ["w1", "bookings-0", "timing-medium", "timing-dense"];
@@ -187,15 +187,7 @@ fn nanoseconds(runs: &[Run], catalogue: &[u8]) -> Vec<f64> {
     least
 }
 
-/// A folder for the files that a counted run reads.
-fn scratch() -> PathBuf {
-    let folder = std::env::temp_dir().join(format!("times-{}", std::process::id()));
-    std::fs::create_dir_all(&folder).expect("a folder for temporary files");
-    folder
-}
-
-/// Instructions of a call: callgrind counts those of many calls, from the
-/// entry of the function that is measured to its return.
+/// Instructions of a call.
 fn counted(&Run(side, case): &Run, catalogue: &[u8]) -> f64 {
     const CALLS: usize = 10;
     let [name, first, second] = case.call.words();
@@ -205,28 +197,14 @@ fn counted(&Run(side, case): &Run, catalogue: &[u8]) -> f64 {
         (Side::Plain, name) => ("plain", format!("bench::plain::reading::{name}*")),
         (Side::Bit, _) => ("bit", "bench::plain::reading::bit*".to_string()),
     };
-    let folder = scratch();
-    let files = [folder.join("catalogue"), folder.join("store")];
-    std::fs::write(&files[0], catalogue).expect("a temporary file");
-    std::fs::write(&files[1], &case.store).expect("a temporary file");
-    let output = Command::new("valgrind")
-        .arg("--tool=callgrind")
-        .arg("--callgrind-out-file=/dev/null")
-        .arg(format!("--toggle-collect={function}"))
-        .arg(std::env::current_exe().expect("this program"))
-        .args(["repeat", word, &name, &first, &second])
-        .args(&files)
-        .arg(CALLS.to_string())
-        .output()
-        .expect("valgrind");
-    std::fs::remove_dir_all(&folder).expect("the temporary folder");
-    let text = String::from_utf8_lossy(&output.stderr);
-    let total = text
-        .lines()
-        .find_map(|line| line.split_once("Collected : "))
-        .and_then(|(_, count)| count.trim().parse::<f64>().ok())
-        .unwrap_or_else(|| panic!("no count of instructions: {text}"));
-    total / CALLS as f64
+    let scratch = Scratch::new();
+    let files = [("catalogue", catalogue), ("store", &case.store)];
+    let [catalogue, store] = files.map(|(name, bytes)| scratch.file(name, bytes));
+    let calls = CALLS.to_string();
+    let words = [
+        "read", word, &name, &first, &second, &catalogue, &store, &calls,
+    ];
+    counting::instructions(&function, &words) as f64 / CALLS as f64
 }
 
 /// Makes a call many times: SIDE CALL FIRST SECOND CATALOGUE STORE CALLS.
