@@ -1,9 +1,12 @@
-//! The library and the reference on damaged catalogues, damaged stores and
-//! buffers of every length about the limits: the same answers, and the same bytes.
+//! The library and the reference on damaged catalogues, damaged stores, random
+//! catalogues, and buffers of every length: the same answers, and the same bytes.
 
 #[path = "support/library.rs"]
 mod library;
+#[path = "../../reference/tests/support/random.rs"]
+mod random;
 
+use random::Random;
 use reference::calls;
 use reference::catalogue::{Catalogue, Concept};
 use reference::examples;
@@ -125,6 +128,44 @@ fn every_length_of_a_buffer() {
             );
             assert_eq!(output, expected);
         }
+    }
+}
+
+/// A random catalogue, of up to 16 roles with many axioms on them.
+fn random_catalogue(random: &mut Random) -> Catalogue {
+    let mut catalogue = random.catalogue(70);
+    let roles = 1 + random.below(16);
+    for concept in &mut catalogue.concepts {
+        if let Concept::Existential(role, _) = concept {
+            *role = random.below(roles);
+        }
+    }
+    let mut role = || random.below(roles);
+    let (inclusions, compositions) = (role() + role(), role() + role());
+    catalogue.roles = roles;
+    catalogue.inclusions = (0..inclusions).map(|_| (role(), role())).collect();
+    catalogue.compositions = (0..compositions)
+        .map(|_| (role(), role(), role()))
+        .collect();
+    catalogue
+}
+
+#[test]
+fn random_catalogues_and_stores() {
+    for seed in 0..400 {
+        let random = &mut Random::new(seed);
+        let catalogue = random_catalogue(random);
+        let mut store = classified(&catalogue);
+        compare_all(&catalogue.bytes(), &store);
+        for _ in 0..3 {
+            let bit = random.below(8 * store.len());
+            store[bit / 8] ^= 1 << (bit % 8);
+            library::compare_reading(&catalogue.bytes(), &store);
+        }
+        let mut damaged = catalogue.bytes();
+        let at = random.below(damaged.len());
+        damaged[at] = random.below(5) as u8;
+        compare_all(&damaged, &store);
     }
 }
 
