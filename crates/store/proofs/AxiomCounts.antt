@@ -12,21 +12,13 @@ use Rattle.catalogue.specs.Records.{left, right}
 use Rattle.catalogue.specs.WellFormed.{WellFormed}
 use Rattle.rows.specs.Bits.{countBelow}
 use Rattle.rows.proofs.ByteBits.{split-last}
-use Rattle.rows.proofs.Counting.{count-ext}
+use Rattle.rows.proofs.Counting.{count-ext, count-pass, count-fail}
 use Rattle.derivation.proofs.Decided.{by-bool, not-both, not-true-false}
 use Rattle.rules.specs.Axioms.{Axioms, catalogueAxioms, added, withdrawn}
 use Rattle.rules.proofs.Axioms.{catalogue-axioms-exact, added-exact, withdrawn-exact}
 use Rattle.blocks.proofs.Places.{row-within}
 use Rattle.store.specs.Written.{numbered, axiomCount}
 use Rattle.store.proofs.Written.{number-left, number-right, number-below}
-
-count-pass : (test : ℕ → Bool) (k : ℕ) → test k ≡ true → countBelow test (suc k) ≡ suc (countBelow test k)
-unfolding countBelow
-count-pass test k e = rw (e, countBelow)
-
-count-fail : (test : ℕ → Bool) (k : ℕ) → test k ≡ false → countBelow test (suc k) ≡ countBelow test k
-unfolding countBelow
-count-fail test k e = rw (e, countBelow)
 
 -- ---- numbers in a rising row
 

@@ -11,6 +11,7 @@ use lib.ListN.{length, getD, length-append, List·getD-append}
 use lib.Seq.{getD-append-seam}
 use Rattle.rows.specs.Bits.{countBelow}
 use Rattle.rows.proofs.ByteBits.{split-last}
+use Rattle.rows.proofs.Counting.{count-pass, count-fail}
 use Rattle.derivation.proofs.Decided.{by-bool, not-both}
 use Rattle.store.specs.Written.{rising}
 
@@ -88,8 +89,7 @@ rising-lists test (suc k) =
 pub length-rising : (test : ℕ → Bool) (k : ℕ) → length (rising test k) ≡ countBelow test k
 unfolding rising countBelow
 length-rising test zero = refl
-length-rising test (suc k) = go (test k) (length-rising test k)
-  where
-    go : (t : Bool) → length (rising test k) ≡ countBelow test k → length {A = ℕ} (elim t as (λ _. List ℕ) [ true ↦ rising test k ++ (k ∷ []) | false ↦ rising test k ]) ≡ (elim t as (λ _. ℕ) [ true ↦ suc (countBelow test k) | false ↦ countBelow test k ])
-    go true e = length-append (rising test k) (k ∷ []) ∙ add-one (length (rising test k)) ∙ ap suc e
-    go false e = e
+length-rising test (suc k) =
+    by-bool (test k)
+    (λ e. ap length (rising-pass test k e) ∙ length-append (rising test k) (k ∷ []) ∙ add-one (length (rising test k)) ∙ ap suc (length-rising test k) ∙ sym (count-pass test k e))
+    (λ e. ap length (rising-fail test k e) ∙ length-rising test k ∙ sym (count-fail test k e))

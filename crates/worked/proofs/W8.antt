@@ -12,8 +12,8 @@ use Rattle.catalogue.specs.Outcome.{accepted}
 use Rattle.catalogue.specs.Checks.{checked}
 use Rattle.catalogue.specs.WellFormed.{WellFormed}
 use Rattle.catalogue.proofs.Accepted.{accepted-well-formed}
-use Rattle.rows.specs.Bits.{bit}
-use Rattle.derivation.specs.Tables.{count}
+use Rattle.rows.specs.Bits.{bit, countBelow as count}
+use Rattle.rows.proofs.Counting.{count-none}
 use Rattle.derivation.proofs.Decided.{not-both, not-true-false}
 use Rattle.rules.specs.Axioms.{Axioms, InRange, none, catalogueAxioms}
 use Rattle.rules.specs.Rules.{Expression, fact, Closure}
@@ -33,7 +33,7 @@ use Rattle.lookups.specs.Answers.{lookedUp}
 use Rattle.lookups.specs.declared.pairs.Looked.the-variants.{Refused}
 use Rattle.lookups.proofs.DemandLookup.{no-axioms-absent}
 use Rattle.closure.proofs.Stored.{marks-fresh}
-use Rattle.closure.proofs.Sums.{sum-zero, count-none, counts-agree}
+use Rattle.closure.proofs.Sums.{sum-zero, counts-agree}
 use Rattle.worked.specs.Calls.{ClassifyGives}
 use Rattle.worked.proofs.Classifying.{classify-gives}
 

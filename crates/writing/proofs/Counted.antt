@@ -1,42 +1,21 @@
 -- Counts and rising lists over numbers that fail or pass a test.
-use mathlib.Core.Path.{_≡_, refl, sym, ap, _∙_, subst}
-use mathlib.Core.Bool.{Bool, true, false}
-use mathlib.Core.List.{List, [], _∷_, _++_}
-use Prim.Native.Nat.{ℕ, zero, suc, _+_, _-_, _*_, _≤_, _<_}
-use native.Mathlib.Nat.{add-zero, add-suc, le-refl}
+use mathlib.Core.Path.{_≡_, sym, ap, _∙_, subst}
+use mathlib.Core.Bool.{Bool, false}
+use Prim.Native.Nat.{ℕ, zero, suc, _+_, _-_, _≤_, _<_}
+use native.Mathlib.Nat.{add-zero, add-suc}
 use native.Mathlib.Omega.{arith}
 use Rattle.rows.specs.Bits.{countBelow}
-use Rattle.rows.proofs.Counting.{count-add, count-le}
+use Rattle.rows.proofs.Counting.{count-add}
 use Rattle.store.specs.Written.{rising}
-use Rattle.store.proofs.Rising.{rising-pass, rising-fail}
-
-pub count-pass : (test : ℕ → Bool) (k : ℕ) → test k ≡ true → countBelow test (suc k) ≡ suc (countBelow test k)
-unfolding countBelow
-count-pass test k e = rw (e, countBelow)
-
-pub count-fail : (test : ℕ → Bool) (k : ℕ) → test k ≡ false → countBelow test (suc k) ≡ countBelow test k
-unfolding countBelow
-count-fail test k e = rw (e, countBelow)
+use Rattle.store.proofs.Rising.{rising-fail}
 
 -- Numbers that fail are passed over.
-skip-by : (test : ℕ → Bool) (a k : ℕ) → ((i : ℕ) → a ≤ i → i < a + k → test i ≡ false) → (countBelow test (a + k) ≡ countBelow test a) × (rising test (a + k) ≡ rising test a)
-skip-by test a zero none = (ap (countBelow test) (add-zero a), ap (rising test) (add-zero a))
-skip-by test a (suc k) none =
-    let r = skip-by test a k (λ i p q. none i p (omega arith)) in
-    let e : test (a + k) ≡ false = none (a + k) (omega arith) (omega arith) in (
-      ap (countBelow test) (add-suc a k) ∙ count-fail test (a + k) e ∙ r .0,
-      ap (rising test) (add-suc a k) ∙ rising-fail test (a + k) e ∙ r .1,
-    )
+skip-by : (test : ℕ → Bool) (a k : ℕ) → ((i : ℕ) → a ≤ i → i < a + k → test i ≡ false) → rising test (a + k) ≡ rising test a
+skip-by test a zero none = ap (rising test) (add-zero a)
+skip-by test a (suc k) none = ap (rising test) (add-suc a k) ∙ rising-fail test (a + k) (none (a + k) (omega arith) (omega arith)) ∙ skip-by test a k (λ i p q. none i p (omega arith))
 
-module _ (test : ℕ → Bool) (a b : ℕ) (l : a ≤ b) (none : (i : ℕ) → a ≤ i → i < b → test i ≡ false) where
-  whole : a + (b - a) ≡ b
-  whole = omega arith
-
-  pub count-skip : countBelow test b ≡ countBelow test a
-  count-skip = sym (ap (countBelow test) whole) ∙ skip-by test a (b - a) (λ i p q. none i p (omega arith)) .0
-
-  pub rising-skip : rising test b ≡ rising test a
-  rising-skip = sym (ap (rising test) whole) ∙ skip-by test a (b - a) (λ i p q. none i p (omega arith)) .1
+pub rising-skip : (test : ℕ → Bool) (a b : ℕ) → a ≤ b → ((i : ℕ) → a ≤ i → i < b → test i ≡ false) → rising test b ≡ rising test a
+rising-skip test a b l none = ap (rising test) (let whole : b ≡ a + (b - a) = omega arith in whole) ∙ skip-by test a (b - a) (λ i p q. none i p (omega arith))
 
 pub count-up : (test : ℕ → Bool) (a b : ℕ) → a ≤ b → countBelow test a ≤ countBelow test b
 count-up test a b l =
