@@ -1,12 +1,12 @@
 -- Laws of counts and of tests over the numbers below a bound, and what they say of a row, byte by byte.
-use mathlib.Core.Path.{_≡_, refl, sym, ap, ap₂, _∙_}
+use mathlib.Core.Path.{_≡_, refl, sym, ap, ap₂, _∙_, subst}
 use mathlib.Core.Bool.{Bool, true, false, cond, _||_, false≢true, or-true}
 use mathlib.Core.Logic.{⊎-elim}
 use mathlib.Core.List.{List}
 use Prim.Native.Nat.{ℕ, zero, suc, _+_, _-_, _*_, _/_, _%_, _^_, _≤_, _<_, suc-le-suc}
 use native.Mathlib.Nat.{add-zero, add-suc, suc-add, not-suc-le-zero, le-refl, zero-add}
 use native.Mathlib.Omega.{arith}
-use native.Mathlib.Decide.{decLt}
+use native.Mathlib.Decide.{decLt, ℕ-discrete}
 use lib.ListN.{length, getD}
 use lib.Dec.{eqb}
 use lib.Count.{ones, ones-step}
@@ -56,6 +56,13 @@ count-add test a (suc k) =
     ap (countBelow test) (add-suc a k)
     ∙ ap (one-if (test (a + k))) (count-add test a k)
     ∙ one-if-add (test (a + k)) (countBelow test a) (countBelow (λ (j : ℕ). test (a + j)) k)
+
+-- A higher bound has no smaller count.
+pub count-up : (test : ℕ → Bool) (a b : ℕ) → a ≤ b → countBelow test a ≤ countBelow test b
+count-up test a b l =
+    let whole : a + (b - a) ≡ b = omega arith in
+    subst (λ (n : ℕ). countBelow test a ≤ countBelow test n) whole
+    (subst (λ (n : ℕ). countBelow test a ≤ n) (sym (count-add test a (b - a))) (omega arith))
 
 -- Numbers that fail add nothing.
 pub count-none : (test : ℕ → Bool) (k : ℕ) → ((j : ℕ) → j < k → test j ≡ false) → countBelow test k ≡ 0
@@ -133,6 +140,16 @@ some-which test (suc k) h = go (test k) refl h (λ g. some-which test k g)
     go : (b : Bool) → test k ≡ b → (b || someBelow test k) ≡ true → (someBelow test k ≡ true → (j : ℕ) × (j < k) × (test j ≡ true)) → (j : ℕ) × (j < suc k) × (test j ≡ true)
     go true e g ih = (k, le-refl (suc k), e)
     go false e g ih = let w = ih g in (w .0, omega (arith, w .1), w .2)
+
+-- Numbers whose tests fail add nothing.
+pub some-skip : (test : ℕ → Bool) (k j : ℕ) → k ≤ j → ((a : ℕ) → k ≤ a → a < j → test a ≡ false) → someBelow test j ≡ someBelow test k
+unfolding someBelow
+some-skip test k zero l e = ap (someBelow test) (let z : 0 ≡ k = omega arith in z)
+some-skip test k (suc j) l e =
+    elim (ℕ-discrete k (suc j)) [
+      | yes s ↦ ap (someBelow test) (sym s)
+      | no n ↦ ap (λ (b : Bool). b || someBelow test j) (e j (omega arith) (le-refl (suc j))) ∙ some-skip test k j (omega arith) (λ a p q. e a p (omega arith))
+    ]
 
 pub none-below : (test : ℕ → Bool) (k j : ℕ) → someBelow test k ≡ false → j < k → test j ≡ false
 none-below test k j h l = go (test j) refl

@@ -2,8 +2,8 @@
 use Prim.Native.Nat.{ℕ, zero, suc, _+_, _*_, _/_, _%_, _≤_, _<_}
 use native.Mathlib.Nat.{suc-mul, zero-mul, le-refl}
 use native.Mathlib.Omega.{arith}
-use mathlib.Core.Path.{_≡_, refl, sym, ap, ap₂, _∙_}
-use mathlib.Core.Bool.{Bool, true, false}
+use mathlib.Core.Path.{_≡_, sym, ap, ap₂, _∙_}
+use mathlib.Core.Bool.{true, false}
 use mathlib.Core.List.{List}
 use lib.ListN.{length}
 use Rattle.catalogue.specs.Header.{concepts}
@@ -18,10 +18,6 @@ use Rattle.store.proofs.Sizes.{rows-split, width-fits}
 use Rattle.store.proofs.StoreRows.{rows-long, bit-axiom-rows, in-force-bit, spare-clear}
 use Rattle.store.proofs.Written.{number-left, number-right}
 
-none-below-zero : (f g : ℕ → Bool) → countBelow f 0 ≡ countBelow g 0
-unfolding countBelow
-none-below-zero f g = refl
-
 -- Rows of w bytes that mark F below n and nothing from n upward.
 module _ (n w : ℕ) (F : Axioms) (rows : List ℕ) (fits : n ≤ 8 * w) (marked : (c d : ℕ) → c < n → d < n → bit rows (place w c d) ≡ F c d) (spare : (c d : ℕ) → c < n → n ≤ d → d < 8 * w → bit rows (place w c d) ≡ false) where
   row-count : (c : ℕ) → c < n → countBelow (λ d. bit rows (8 * (c * w) + d)) (8 * w) ≡ countBelow (λ d. numbered n F (c * n + d)) n
@@ -32,9 +28,9 @@ module _ (n w : ℕ) (F : Axioms) (rows : List ℕ) (fits : n ≤ 8 * w) (marked
       (λ d h. marked c d l h ∙ sym (ap₂ F (number-left n c d h) (number-right n c d h)))
 
   rows-count : (c : ℕ) → c ≤ n → countBelow (bit rows) (8 * (c * w)) ≡ countBelow (numbered n F) (c * n)
+  unfolding countBelow
   rows-count zero l =
       ap (λ k. countBelow (bit rows) (8 * k)) (zero-mul w)
-      ∙ none-below-zero (bit rows) (numbered n F)
       ∙ sym (ap (countBelow (numbered n F)) (zero-mul n))
   rows-count (suc c) l =
       ap (countBelow (bit rows)) (let z : 8 * (suc c * w) ≡ 8 * (c * w) + 8 * w = omega (arith, suc-mul c w) in z)

@@ -9,13 +9,12 @@ use lib.ListN.{length, take, set, length-set, length-append}
 use lib.Seq.{take-suc-set}
 use Rattle.catalogue.specs.Words.{bytesOf}
 use Rattle.store.specs.Written.{rising, sidesOf, setWord}
-use Rattle.store.proofs.Rising.{rising-pass}
+use Rattle.store.proofs.Rising.{rising-pass, rising-skip}
 use Rattle.store.proofs.Written.{number-left, number-right}
 use Rattle.rows.specs.Bits.{bit, countBelow}
 use Rattle.rows.specs.Next.{NextBelow}
-use Rattle.rows.proofs.Counting.{count-pass, count-skip}
+use Rattle.rows.proofs.Counting.{count-pass, count-skip, count-up}
 use Rattle.writing.specs.Records.{Recorded, WritesRow}
-use Rattle.writing.proofs.Counted.{rising-skip, count-up}
 
 bytes-append : (xs ys : List ℕ) → bytesOf (xs ++ ys) ≡ bytesOf xs ++ bytesOf ys
 unfolding bytesOf
