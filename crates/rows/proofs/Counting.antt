@@ -126,6 +126,12 @@ some-at test (suc k) j l h =
     (λ l'. ap (λ (b : Bool). test k || b) (some-at test k j l' h) ∙ or-true (test k))
     (split-last j k l)
 
+-- Tests that agree below k.
+pub some-ext : (f g : ℕ → Bool) (k : ℕ) → ((j : ℕ) → j < k → f j ≡ g j) → someBelow f k ≡ someBelow g k
+unfolding someBelow
+some-ext f g zero e = refl
+some-ext f g (suc k) e = ap₂ _||_ (e k (le-refl (suc k))) (some-ext f g k (λ j l. e j (omega arith)))
+
 pub some-none : (test : ℕ → Bool) (k : ℕ) → ((j : ℕ) → j < k → test j ≡ false) → someBelow test k ≡ false
 unfolding someBelow
 some-none test zero e = refl
