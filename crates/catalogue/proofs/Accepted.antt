@@ -15,7 +15,7 @@ use Rattle.catalogue.specs.Checks.{headerFits, totalRight, countsInLimit
 use Rattle.catalogue.specs.Sections.{Sections}
 use Rattle.catalogue.specs.WellFormed.{WellFormed}
 use Rattle.catalogue.proofs.Bounds.{header-within}
-use Rattle.catalogue.proofs.Tests.{sections, fields-simple, fields-conjunction, fields-existential, rising-first, rising-after}
+use Rattle.catalogue.proofs.Tests.{limits, sections, fields-simple, fields-conjunction, fields-existential, rising-first, rising-after}
 use Rattle.catalogue.proofs.Passed.{Passed, accepted-passed, passed-accepted}
 
 -- Both of two tests.
@@ -65,16 +65,6 @@ up-to-three (suc (suc (suc k))) l = inr (inr (omega arith))
 
 -- What each answer of a catalogue's checks says.
 module _ (b : List ℕ) (p : Passed b) where
-  limits : (1 ≤ concepts b) × (concepts b ≤ 512) × (roles b ≤ 16) × (inclusions b ≤ 64) × (compositions b ≤ 64) × (axioms b ≤ 4096)
-  unfolding countsInLimits
-  limits =
-      let n = both _ _ (p .counts-in-limits) in
-      let m = both _ _ (n .1) in
-      let r = both _ _ (m .1) in
-      let h = both _ _ (r .1) in
-      let k = both _ _ (h .1) in
-      (leb-true _ _ (n .0), leb-true _ _ (m .0), leb-true _ _ (r .0), leb-true _ _ (h .0), leb-true _ _ (k .0), leb-true _ _ (k .1))
-
   kind-most : (i : ℕ) → i < concepts b → kind b i ≤ 3
   unfolding kindRight
   kind-most i l = leb-true _ _ (p .kind-right i l)
@@ -112,13 +102,14 @@ module _ (b : List ℕ) (p : Passed b) where
   passed-well-formed : WellFormed b
   passed-well-formed =
       let s : Sections b = sections b (p .total-right) (p .offsets-right) in
+      let counts = limits b (p .counts-in-limits) in
       record {
-        some-concept = limits .0;
-        concepts-limit = limits .1;
-        roles-limit = limits .2;
-        inclusions-limit = limits .3;
-        compositions-limit = limits .4;
-        axioms-limit = limits .5;
+        some-concept = counts .0;
+        concepts-limit = counts .1;
+        roles-limit = counts .2;
+        inclusions-limit = counts .3;
+        compositions-limit = counts .4;
+        axioms-limit = counts .5;
         concepts-start = s .concepts-start;
         inclusions-start = s .inclusions-start;
         compositions-start = s .compositions-start;

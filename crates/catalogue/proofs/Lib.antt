@@ -6,3 +6,4 @@ pub mod Tests
 pub mod Passed
 pub mod Accepted
 pub mod Examples
+pub mod Refusals

@@ -33,11 +33,15 @@ each-no ok {n} {m} {i} number rest c e l =
     let f : i ≡ firstFault ok m = e ∙ ap (firstFault ok) c in
     ask-no number _ rest (ne-eqb _ m (λ q. absurd (omega arith))) ∙ ap (refused number) (sym f)
 
+-- An outcome is one of the two.
+pub never-both : {number at : ℕ} (o : Outcome) → o ≡ accepted → o ≡ refused number at → ⊥
+never-both o p q = let z : _≡_ {A = ℕ} 0 1 = cc in omega arith
+
 -- What acceptance says: the answer was yes, and the rest is accepted.
 pub ask-accepted : (t : Bool) (number at : ℕ) (rest : Outcome) → ask t number at rest ≡ accepted → (t ≡ true) × (rest ≡ accepted)
 unfolding ask
 ask-accepted true number at rest e = (refl, e)
-ask-accepted false number at rest e = let z : _≡_ {A = ℕ} 0 1 = cc in absurd (omega arith)
+ask-accepted false number at rest e = absurd (never-both (refused number at) e refl)
 
 pub each-accepted : (ok : ℕ → Bool) (n number : ℕ) (rest : Outcome) → askEach ok n number rest ≡ accepted → ((k : ℕ) → k < n → ok k ≡ true) × (rest ≡ accepted)
 unfolding askEach
@@ -55,3 +59,9 @@ followed-ask false number at one rest = refl
 pub followed-each : (ok : ℕ → Bool) (n number : ℕ) (one rest : Outcome) → followed (askEach ok n number one) rest ≡ askEach ok n number (followed one rest)
 unfolding askEach
 followed-each ok n number one rest = followed-ask _ number _ one rest
+
+-- Both accept where one with what follows it does.
+pub followed-both : (one rest : Outcome) → followed one rest ≡ accepted → (one ≡ accepted) × (rest ≡ accepted)
+unfolding followed
+followed-both accepted rest e = (refl, e)
+followed-both (refused number at) rest e = absurd (never-both (refused number at) e refl)

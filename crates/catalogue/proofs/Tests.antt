@@ -6,10 +6,10 @@ use mathlib.Core.Bool.{true, _&&_, and-eq-true-iff}
 use mathlib.Core.List.{List}
 use lib.Dec.{ltb, eqb}
 use lib.ListN.{length}
-use borrow.Author.Tests.{eqb-true}
+use borrow.Author.Tests.{eqb-true, leb-true}
 use Rattle.catalogue.specs.Header.{total, concepts, roles, inclusions, compositions, axioms, conceptsAt, inclusionsAt, compositionsAt, axiomsAt}
 use Rattle.catalogue.specs.Records.{first, second, left, right}
-use Rattle.catalogue.specs.Checks.{totalRight, offsetsRight, fieldsAsKind, above, risingRight}
+use Rattle.catalogue.specs.Checks.{totalRight, countsInLimits, offsetsRight, fieldsAsKind, above, risingRight}
 use Rattle.catalogue.specs.Sections.{Sections}
 
 -- The fields of an atomic or top concept, of a conjunction, and of an existential.
@@ -38,6 +38,18 @@ rising-first b k e = rw e
 pub rising-after : (b : List ℕ) (j k : ℕ) → k ≡ suc j → risingRight b k ≡ above (left b j) (right b j) (left b k) (right b k)
 unfolding risingRight
 rising-after b j k e = rw e
+
+-- Question 3 answered yes: the counts are in their limits.
+pub limits : (b : List ℕ) → countsInLimits b ≡ true
+    → (1 ≤ concepts b) × (concepts b ≤ 512) × (roles b ≤ 16) × (inclusions b ≤ 64) × (compositions b ≤ 64) × (axioms b ≤ 4096)
+unfolding countsInLimits
+limits b e =
+    let n = and-eq-true-iff _ _ .0 e in
+    let m = and-eq-true-iff _ _ .0 (n .1) in
+    let r = and-eq-true-iff _ _ .0 (m .1) in
+    let h = and-eq-true-iff _ _ .0 (r .1) in
+    let k = and-eq-true-iff _ _ .0 (h .1) in
+    (leb-true _ _ (n .0), leb-true _ _ (m .0), leb-true _ _ (r .0), leb-true _ _ (h .0), leb-true _ _ (k .0), leb-true _ _ (k .1))
 
 -- Questions 2 and 4 answered yes: the sections stand one after the other, and fill the catalogue.
 pub sections : (b : List ℕ) → totalRight b ≡ true → offsetsRight b ≡ true → Sections b

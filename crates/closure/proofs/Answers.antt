@@ -8,6 +8,7 @@ use lib.ListN.{length, take, drop, replicate, length-append, length-drop, List·
 use lib.Seq.{take-append-le, drop-append-le, drop-at}
 use Rattle.catalogue.specs.Outcome.{accepted, refused}
 use Rattle.catalogue.specs.WellFormed.{WellFormed}
+use Rattle.catalogue.proofs.Outcomes.{never-both}
 use Rattle.derivation.specs.Decided.{Decides}
 use Rattle.rules.specs.Axioms.{Axioms, InRange, catalogueAxioms}
 use Rattle.rules.specs.Rules.{Expression, Closure}
@@ -20,7 +21,7 @@ use Rattle.store.proofs.Sizes.{used-split}
 use Rattle.closure.specs.declared.Classified.{Classified}
 use Rattle.closure.specs.declared.Classified.the-variants.{Refused}
 use Rattle.closure.specs.Classified.{classifyChecks, Classifying, Classifies}
-use Rattle.closure.proofs.Checks.{accepted-fits, never-both}
+use Rattle.closure.proofs.Checks.{accepted-fits}
 use Rattle.closure.proofs.Stored.{marks-fresh}
 
 pub ends-refused : (b store work : List ℕ) (number at : ℕ) → classifyChecks b (length store) (length work) ≡ refused number at → Classifies b store work (Refused number at) store work

@@ -1,14 +1,13 @@
 -- Questions 1 to 11: what acceptance says, and each way to a refusal.
 use Prim.Native.Nat.{ℕ, _≤_}
-use native.Mathlib.Omega.{arith}
-use mathlib.Core.Path.{_≡_, refl, _∙_}
+use mathlib.Core.Path.{_≡_, _∙_}
 use mathlib.Core.Bool.{true, false}
 use mathlib.Core.List.{List}
 use borrow.Author.Tests.{leb-true}
-use Rattle.catalogue.specs.Outcome.{Outcome, accepted, refused, followed}
+use Rattle.catalogue.specs.Outcome.{accepted, refused}
 use Rattle.catalogue.specs.Checks.{checked}
 use Rattle.catalogue.specs.WellFormed.{WellFormed}
-use Rattle.catalogue.proofs.Outcomes.{ask-yes, ask-no, ask-accepted}
+use Rattle.catalogue.proofs.Outcomes.{ask-yes, ask-no, ask-accepted, followed-both}
 use Rattle.catalogue.proofs.Passed.{checks-followed, after-accepted, after-refused}
 use Rattle.catalogue.proofs.Accepted.{accepted-well-formed}
 use Rattle.store.specs.Parts.{used, workUsed}
@@ -21,18 +20,10 @@ pub record Fits (b : List ℕ) (storeLength workLength : ℕ) : Type 0 where
   pub store-long : used b ≤ storeLength
   pub work-long : workUsed b ≤ workLength
 
-pub never-both : {number at : ℕ} (o : Outcome) → o ≡ accepted → o ≡ refused number at → ⊥
-never-both o p q = let z : _≡_ {A = ℕ} 0 1 = cc in omega arith
-
-followed-accepted : (one rest : Outcome) → followed one rest ≡ accepted → (one ≡ accepted) × (rest ≡ accepted)
-unfolding followed
-followed-accepted accepted rest e = (refl, e)
-followed-accepted (refused number at) rest e = absurd (never-both (refused number at) e refl)
-
 pub accepted-fits : (b : List ℕ) (storeLength workLength : ℕ) → classifyChecks b storeLength workLength ≡ accepted → Fits b storeLength workLength
 unfolding classifyChecks askStore askWork storeFits workFits
 accepted-fits b storeLength workLength e =
-    let one = followed-accepted (checked b) (askStore b storeLength (askWork b workLength accepted)) (checks-followed b _ ∙ e) in
+    let one = followed-both (checked b) (askStore b storeLength (askWork b workLength accepted)) (checks-followed b _ ∙ e) in
     let ten = ask-accepted (storeFits b storeLength) 10 0 (askWork b workLength accepted) (one .1) in
     let eleven = ask-accepted (workFits b workLength) 11 0 accepted (ten .1) in
     record {

@@ -13,3 +13,4 @@ pub mod LeastSet
 pub mod Filled
 pub mod Answers
 pub mod Refusals
+pub mod Outcomes

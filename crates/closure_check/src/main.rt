@@ -6,6 +6,10 @@
 ghost use Prim.Native.Nat.{_+_, _≤_, _<_};
 ghost use lib.ListN.{length};
 ghost use Rattle.store.specs.Parts.{Sized};
+use cases::fill;
+use cases::say;
+use cases::say_refused;
+use cases::short_at;
 use checksum::fnv1a;
 use closure::Classified;
 use closure::classify;
@@ -13,22 +17,10 @@ use libc::STDIN_FILENO;
 use libc::STDOUT_FILENO;
 use store::used;
 
-// Writes a word and a number.
-fn say(word: &[u8], number: usize) {
-    io::write_all(STDOUT_FILENO, word);
-    io::print_decimal(STDOUT_FILENO, number as u64);
-}
-
 // Writes a word and the checksum of some bytes.
 fn say_checksum(word: &[u8], bytes: &[u8]) {
     io::write_all(STDOUT_FILENO, word);
     io::print_decimal(STDOUT_FILENO, fnv1a(bytes));
-}
-
-// Writes a refusal.
-fn say_refused(number: usize, record: usize) {
-    say(b"refused ", number);
-    say(b" ", record);
 }
 
 // Writes the counts of pairs and links, and the checksum of the store's used part.
@@ -50,28 +42,11 @@ fn run(b: &[u8], store: &mut [u8], work: &mut [u8]) {
     }
 }
 
-// The number at a byte of the input, in two bytes.
-fn short_at(text: &[u8], at: usize) -> usize
-    requires { ⌜ at + 1 < length (now text) ⌝ }
-    ensures { λ r. ⌜ r < 65536 ⌝ }
-{
-    catalogue::word(text, at)
-}
-
 // The number at a byte of the input, in four bytes.
 fn long_at(text: &[u8], at: usize) -> usize
     requires { ⌜ at + 3 < length (now text) ⌝ }
 {
     short_at(text, at) + 65536 * short_at(text, at + 2)
-}
-
-// Fills a work space with bytes that it must not hold at the end.
-fn fill(work: &mut [u8]) {
-    let mut i = 0;
-    while i < work.len() {
-        work[i] = 90;
-        i += 1;
-    }
 }
 
 // The lesser of two numbers.
@@ -93,7 +68,7 @@ fn run_case(text: &[u8], at: usize, store: &mut [u8], work: &mut [u8]) -> usize
     }
     let s = least(long_at(text, at + 2), store.len());
     let w = least(long_at(text, at + 6), work.len());
-    fill(work);
+    fill(work, 90);
     run(&text[start..end], &mut store[..s], &mut work[..w]);
     say_checksum(b" store ", store);
     say_checksum(b" work ", work);

@@ -1,11 +1,13 @@
 -- What an accepted classify gives the calls after it: an accepted catalogue, and a store that is fresh for its axioms.
 use Prim.Native.Nat.{ℕ, _≤_}
 use native.Mathlib.Omega.{arith}
-use mathlib.Core.Path.{_≡_, refl, fun-ext}
+use mathlib.Core.Path.{_≡_, fun-ext, _∙_}
 use mathlib.Core.List.{List}
-use Rattle.catalogue.specs.Outcome.{Outcome, accepted, refused}
+use Rattle.catalogue.specs.Outcome.{accepted}
 use Rattle.catalogue.specs.Checks.{checked}
 use Rattle.catalogue.specs.WellFormed.{WellFormed}
+use Rattle.catalogue.proofs.Outcomes.{followed-both}
+use Rattle.catalogue.proofs.Passed.{checks-followed}
 use Rattle.rules.specs.Axioms.{InRange, catalogueAxioms}
 use Rattle.rules.proofs.Axioms.{catalogue-in-range}
 use Rattle.store.specs.Parts.{inForce}
@@ -13,7 +15,7 @@ use Rattle.store.specs.Fresh.{Fresh}
 use Rattle.store.specs.Written.{axiomCount}
 use Rattle.store.proofs.AxiomCounts.{catalogue-count}
 use Rattle.closure.specs.Classified.{classifyChecks}
-use Rattle.closure.proofs.Checks.{never-both, accepted-fits, refused-catalogue}
+use Rattle.closure.proofs.Checks.{accepted-fits}
 use Rattle.demands.specs.Demands.{AfterClassify}
 
 -- The catalogue and the store that an accepted classify leaves.
@@ -25,11 +27,8 @@ pub record ClassifiedStore (b store : List ℕ) : Type 0 where
   pub fresh : Fresh b (catalogueAxioms b) store
 
 checked-first : (b : List ℕ) (storeLength workLength : ℕ) → classifyChecks b storeLength workLength ≡ accepted → checked b ≡ accepted
-checked-first b storeLength workLength ok = go (checked b) refl
-  where
-    go : (o : Outcome) → checked b ≡ o → checked b ≡ accepted
-    go accepted e = e
-    go (refused number at) e = absurd (never-both (classifyChecks b storeLength workLength) ok (refused-catalogue b storeLength workLength e))
+unfolding classifyChecks
+checked-first b storeLength workLength ok = followed-both (checked b) _ (checks-followed b _ ∙ ok) .0
 
 -- What holds of every such catalogue and store holds after an accepted classify.
 pub after-classify : (P : List ℕ → List ℕ → Type 0) → ((b store : List ℕ) → ClassifiedStore b store → P b store) → AfterClassify P

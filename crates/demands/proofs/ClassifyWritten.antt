@@ -7,11 +7,11 @@ use mathlib.Core.List.{List, _++_}
 use lib.ListN.{length, take, drop}
 use lib.Seq.{take-at}
 use borrow.Author.Tests.{le-leb}
-use Rattle.catalogue.specs.Outcome.{Outcome, accepted, refused}
+use Rattle.catalogue.specs.Outcome.{Outcome, accepted}
 use Rattle.catalogue.specs.Checks.{checked}
 use Rattle.catalogue.specs.WellFormed.{WellFormed}
-use Rattle.catalogue.proofs.Outcomes.{ask-accepted}
-use Rattle.catalogue.proofs.Passed.{after-accepted, after-refused}
+use Rattle.catalogue.proofs.Outcomes.{ask-accepted, followed-both}
+use Rattle.catalogue.proofs.Passed.{checks-followed}
 use Rattle.catalogue.proofs.Accepted.{accepted-well-formed}
 use Rattle.rules.specs.Axioms.{Axioms, catalogueAxioms}
 use Rattle.store.specs.Parts.{width, used, workUsed, inForce, spareClear}
@@ -27,7 +27,7 @@ use Rattle.writing.specs.Write.{storeChecks, writeChecks, ByOutcome, wrote, sta
 use Rattle.writing.specs.declared.Wrote.{Wrote}
 use Rattle.writing.specs.declared.Wrote.the-variants.{Length}
 use Rattle.closure.specs.Classified.{classifyChecks}
-use Rattle.closure.proofs.Checks.{never-both, all-accepted}
+use Rattle.closure.proofs.Checks.{all-accepted}
 use Rattle.demands.specs.Demands.{ClassifiesAfresh, FreshByClassify, WriteThenClassify, ClassifyWriteClassify}
 use Rattle.demands.proofs.AfterClassify.{after-classify, in-force-own}
 
@@ -76,15 +76,12 @@ record Written (b store : List ℕ) : Type 0 where
 
 asked : (b store : List ℕ) (long : ℕ) → writeChecks b store long ≡ accepted → Written b store
 unfolding writeChecks storeChecks askStore askSpare askLimit
-asked b store long e = go (checked b) refl
-  where
-    go : (o : Outcome) → checked b ≡ o → Written b store
-    go accepted q =
-        let ten = ask-accepted (storeFits b (length store)) 10 0 _ (sym (after-accepted b _ q) ∙ e) in
-        let thirteen = ask-accepted (spareClear b store) 13 0 _ (ten .1) in
-        let fourteen = ask-accepted (axiomsInLimit b (inForce b store)) 14 0 _ (thirteen .1) in
-        record { catalogue = q; spare = thirteen .0; few = axioms-few b (inForce b store) (fourteen .0) }
-    go (refused number at) q = absurd (never-both _ e (after-refused b _ q))
+asked b store long e =
+    let nine = followed-both (checked b) _ (checks-followed b _ ∙ e) in
+    let ten = ask-accepted (storeFits b (length store)) 10 0 _ (nine .1) in
+    let thirteen = ask-accepted (spareClear b store) 13 0 _ (ten .1) in
+    let fourteen = ask-accepted (axiomsInLimit b (inForce b store)) 14 0 _ (thirteen .1) in
+    record { catalogue = nine .0; spare = thirteen .0; few = axioms-few b (inForce b store) (fourteen .0) }
 
 pub written-classifies-alike : WriteThenClassify
 written-classifies-alike b store output k output' fresh w =

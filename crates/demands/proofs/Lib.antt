@@ -4,5 +4,4 @@ pub mod Listing
 pub mod Row
 pub mod Write
 pub mod ClassifyWritten
-pub mod Computed
 pub mod Examples

@@ -24,7 +24,7 @@ use Rattle.store.specs.Parts.{width, pairRowAt, rowAt, held}
 use Rattle.store.proofs.Sizes.{width-fits}
 use Rattle.store.proofs.StoreRows.{pair-row-bit}
 use Rattle.lookups.specs.Checks.{every, askNumbers, askOccurs, readChecks}
-use Rattle.lookups.specs.Rows.{pairOffset, rowAnswer, HandsOut}
+use Rattle.lookups.specs.Rows.{rowAnswer, HandsOut}
 use Rattle.lookups.specs.declared.handing.Handed.{Handed}
 use Rattle.lookups.specs.declared.handing.Handed.the-variants.{Row, Refused}
 use Rattle.lookups.proofs.Acceptance.{every-one}
@@ -56,7 +56,7 @@ module _ (b : List ℕ) (c : ℕ) (store part : RefT (List ℕ)) (answer : Hande
 
     -- A bit of the part handed out says what the store holds of the concept, and one past it is clear.
     bit-is : readChecks b (c ∷ []) (now store) ≡ accepted → c < concepts b → (d : ℕ) → d < 8 * width b → bit (now part) d ≡ held b (now store) (pair c d)
-    unfolding rowAt pairRowAt pairOffset
+    unfolding rowAt pairRowAt
     bit-is e l d ld = ap (λ (xs : List ℕ). bit xs d) (h .accepts e .bytes) ∙ pair-row-bit b (now store) c d l ld
 
     bit-clear : readChecks b (c ∷ []) (now store) ≡ accepted → c < concepts b → (d : ℕ) → ¬ (Occurs b (catalogueAxioms b) d) → bit (now part) d ≡ false
@@ -68,14 +68,14 @@ module _ (b : List ℕ) (c : ℕ) (store part : RefT (List ℕ)) (answer : Hande
               (λ t. n (closure-named b (catalogueAxioms b) (u .well-formed) (u .range) c 0 d (u .fresh .set (pair c d) .0 t) .1))
           | no g ↦
               let long : length (now part) ≤ width b =
-              omega (arith, ap (λ (xs : List ℕ). length xs) (h .accepts e .bytes), length-take (width b) (drop (pairOffset b c) (now store)))
+              omega (arith, ap (λ (xs : List ℕ). length xs) (h .accepts e .bytes), length-take (width b) (drop (pairRowAt b c) (now store)))
               in
               bit-past (now part) d (omega arith)
         ]
 
     handed-out : readChecks b (c ∷ []) (now store) ≡ accepted → Occurs b (catalogueAxioms b) c → RowMeans b (catalogueAxioms b) c answer (now part)
     handed-out e o =
-        let is : answer ≡ Row (pairOffset b c) (width b) = a ∙ row-accepted b c (now store) e in
+        let is : answer ≡ Row (pairRowAt b c) (width b) = a ∙ row-accepted b c (now store) e in
         record {
           hands-out = (λ _. o, λ _. is);
           bits = λ _ d p.

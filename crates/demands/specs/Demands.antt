@@ -15,12 +15,12 @@ use Rattle.rows.specs.Bits.{bit}
 use Rattle.rules.specs.Axioms.{InRange, catalogueAxioms}
 use Rattle.rules.specs.Occurrence.{Occurs}
 use Rattle.rules.specs.Models.{Entails, Refuted}
-use Rattle.store.specs.Parts.{width, used, workUsed, inForce}
+use Rattle.store.specs.Parts.{width, pairRowAt, used, workUsed, inForce}
 use Rattle.store.specs.Fresh.{Fresh}
 use Rattle.store.specs.Written.{axiomCount, written, SameRecords}
 use Rattle.lookups.specs.Answers.{lookedUp}
 use Rattle.lookups.specs.Listings.{kindsUnder, withFront, Lists}
-use Rattle.lookups.specs.Rows.{pairOffset, rowAnswer, HandsOut}
+use Rattle.lookups.specs.Rows.{rowAnswer, HandsOut}
 use Rattle.lookups.specs.Meaning.{LookupMeans, KindUnder, ListingMeans}
 use Rattle.lookups.specs.declared.pairs.Looked.{Looked}
 use Rattle.lookups.specs.declared.pairs.Looked.the-variants.{Yes, No}
@@ -79,7 +79,7 @@ ClassifyThenListing =
 -- clear exactly where one refutes it, for D that occurs; for any other D it is clear. 19 exactly if C is a concept and does not occur, 15 exactly
 -- if it is none; the part is then empty.
 pub record RowMeans (b : List ℕ) (F : ℕ → ℕ → Bool) (c : ℕ) (answer : Handed) (part : List ℕ) : Type 0 where
-  pub hands-out : (answer ≡ hands.Row (pairOffset b c) (width b)) ↔ Occurs b F c
+  pub hands-out : (answer ≡ hands.Row (pairRowAt b c) (width b)) ↔ Occurs b F c
   pub bits : Occurs b F c → (d : ℕ) → Occurs b F d → ((bit part d ≡ true) ↔ Entails b F c d) × ((bit part d ≡ false) ↔ Refuted b F c d)
   pub others : (d : ℕ) → ¬ (Occurs b F d) → bit part d ≡ false
   pub absent : (answer ≡ hands.Refused 19 0) ↔ ((c < concepts b) × ¬ (Occurs b F c))

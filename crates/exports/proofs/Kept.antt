@@ -2,7 +2,7 @@
 use Prim.Native.Nat.{ℕ}
 use native.Mathlib.Decide.{decLt}
 use native.Mathlib.Omega.{arith}
-use mathlib.Core.Path.{_≡_, refl}
+use mathlib.Core.Path.{_≡_, refl, sym}
 use mathlib.Core.List.{List}
 use lib.ListN.{length}
 use Rattle.catalogue.specs.Outcome.{Outcome}
@@ -10,7 +10,7 @@ use Rattle.store.specs.Work.{workAfter}
 use Rattle.closure.specs.declared.Classified.{Classified}
 use Rattle.closure.specs.declared.Classified.the-variants.{Done}
 use Rattle.closure.specs.Classified.{Classifies}
-use Rattle.closure.proofs.Refusals.{answer-refused}
+use Rattle.closure.proofs.Outcomes.{answer-outcome}
 use Rattle.lookups.specs.declared.kinds.Listed.{Listed}
 use Rattle.lookups.specs.declared.kinds.Listed.the-variants.{Count}
 use Rattle.lookups.specs.Listings.{Lists}
@@ -54,7 +54,7 @@ classifies-kept : (b store work s w : List ℕ) (call : Classified) (number at :
 unfolding workAfter
 classifies-kept b store work s w (Done pairs links) number at p e = absurd (never-accepted e)
 classifies-kept b store work s w (Classified.Refused n a) number at p e =
-    let x = p .refuses n a (answer-refused b store work n a s w p) in
+    let x = p .refuses n a (sym (answer-outcome b store work (Classified.Refused n a) s w p)) in
     λ i. (x .store-kept i, x .work-kept i)
 
 pub classify-kept : (b store work answer : List ℕ) (r : ℕ) (s w a : List ℕ) → ClassifyExported b store work answer r s w a → (r ≡ 0 → ⊥)

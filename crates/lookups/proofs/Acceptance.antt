@@ -5,13 +5,12 @@ use mathlib.Core.Bool.{Bool, true, _&&_, and-true, and-self-left}
 use mathlib.Core.List.{List, [], _∷_}
 use lib.Dec.{ltb}
 use lib.ListN.{length}
-use native.Mathlib.Omega.{arith}
 use borrow.Author.Tests.{leb-true, ltb-true}
 use Rattle.catalogue.specs.Header.{concepts}
 use Rattle.catalogue.specs.Outcome.{Outcome, accepted, refused, ask, followed}
 use Rattle.catalogue.specs.Checks.{checked}
 use Rattle.catalogue.specs.WellFormed.{WellFormed}
-use Rattle.catalogue.proofs.Outcomes.{ask-accepted, followed-ask}
+use Rattle.catalogue.proofs.Outcomes.{ask-accepted, followed-ask, followed-both}
 use Rattle.catalogue.proofs.Passed.{checks-followed}
 use Rattle.catalogue.proofs.Accepted.{accepted-well-formed}
 use Rattle.derivation.proofs.Decided.{both}
@@ -69,12 +68,6 @@ pub open-refused : (b : List ℕ) (long : ℕ) {number at : ℕ} (rest : Outcome
 open-refused b long rest e = sym (open-followed b long rest) ∙ followed-refused rest e
 
 -- ---- what acceptance gives
-
--- Acceptance with what follows: both accept.
-followed-both : (one rest : Outcome) → followed one rest ≡ accepted → (one ≡ accepted) × (rest ≡ accepted)
-unfolding followed
-followed-both accepted rest e = (refl, e)
-followed-both (refused number at) rest e = let z : _≡_ {A = ℕ} 0 1 = cc in absurd (let n : ⊥ = omega arith in n)
 
 opened : (b : List ℕ) (long : ℕ) (rest : Outcome) → openChecks b long rest ≡ accepted → (checked b ≡ accepted) × (storeFits b long ≡ true) × (rest ≡ accepted)
 unfolding openChecks askStore

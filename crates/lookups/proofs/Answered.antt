@@ -8,11 +8,11 @@ use lib.ListN.{length, take, drop}
 use denote.Ref.{RefT, ptr, now}
 use Rattle.catalogue.specs.Outcome.{Outcome, accepted, refused}
 use Rattle.rules.specs.Rules.{pair}
-use Rattle.store.specs.Parts.{width, held}
+use Rattle.store.specs.Parts.{width, pairRowAt, held}
 use Rattle.lookups.specs.Checks.{readChecks, listChecks}
 use Rattle.lookups.specs.Answers.{looked, lookedUp}
 use Rattle.lookups.specs.Listings.{kindsUnder, listed, listAfter, Lists, Filled}
-use Rattle.lookups.specs.Rows.{pairOffset, handed, rowAnswer, HandsOut}
+use Rattle.lookups.specs.Rows.{handed, rowAnswer, HandsOut}
 use Rattle.lookups.specs.declared.pairs.Looked.the-variants as looks
 use Rattle.lookups.specs.declared.kinds.Listed.the-variants as lists
 use Rattle.lookups.specs.declared.handing.Handed.the-variants as hands
@@ -29,13 +29,13 @@ looked-refused b c d store e = ap (λ o. looked o (held b store (pair c d))) e
 
 -- ---- row
 
-pub row-accepted : (b : List ℕ) (c : ℕ) (store : List ℕ) → readChecks b (c ∷ []) store ≡ accepted → rowAnswer b c store ≡ hands.Row (pairOffset b c) (width b)
+pub row-accepted : (b : List ℕ) (c : ℕ) (store : List ℕ) → readChecks b (c ∷ []) store ≡ accepted → rowAnswer b c store ≡ hands.Row (pairRowAt b c) (width b)
 unfolding rowAnswer
-row-accepted b c store e = ap (λ o. handed o (pairOffset b c) (width b)) e
+row-accepted b c store e = ap (λ o. handed o (pairRowAt b c) (width b)) e
 
 pub row-refused : (b : List ℕ) (c : ℕ) (store : List ℕ) {number at : ℕ} → readChecks b (c ∷ []) store ≡ refused number at → rowAnswer b c store ≡ hands.Refused number at
 unfolding rowAnswer
-row-refused b c store e = ap (λ o. handed o (pairOffset b c) (width b)) e
+row-refused b c store e = ap (λ o. handed o (pairRowAt b c) (width b)) e
 
 handed-row : (o : Outcome) (p w offset size : ℕ) → hands.Row offset size ≡ handed o p w → (o ≡ accepted) × (offset ≡ p) × (size ≡ w)
 handed-row accepted p w offset size e = (refl, cc, cc)
@@ -45,13 +45,13 @@ handed-refused : (o : Outcome) (p w number at : ℕ) → hands.Refused number at
 handed-refused accepted p w number at e = let z : _≡_ {A = ℕ} 0 1 = cc in absurd (let n : ⊥ = omega arith in n)
 handed-refused (refused number' at') p w number at e = cc
 
-pub row-answered : (b : List ℕ) (c : ℕ) (store : List ℕ) (offset size : ℕ) → hands.Row offset size ≡ rowAnswer b c store → (readChecks b (c ∷ []) store ≡ accepted) × (offset ≡ pairOffset b c) × (size ≡ width b)
+pub row-answered : (b : List ℕ) (c : ℕ) (store : List ℕ) (offset size : ℕ) → hands.Row offset size ≡ rowAnswer b c store → (readChecks b (c ∷ []) store ≡ accepted) × (offset ≡ pairRowAt b c) × (size ≡ width b)
 unfolding rowAnswer
-row-answered b c store offset size e = handed-row (readChecks b (c ∷ []) store) (pairOffset b c) (width b) offset size e
+row-answered b c store offset size e = handed-row (readChecks b (c ∷ []) store) (pairRowAt b c) (width b) offset size e
 
 pub refused-answered : (b : List ℕ) (c : ℕ) (store : List ℕ) (number at : ℕ) → hands.Refused number at ≡ rowAnswer b c store → readChecks b (c ∷ []) store ≡ refused number at
 unfolding rowAnswer
-refused-answered b c store number at e = handed-refused (readChecks b (c ∷ []) store) (pairOffset b c) (width b) number at e
+refused-answered b c store number at e = handed-refused (readChecks b (c ∷ []) store) (pairRowAt b c) (width b) number at e
 
 -- ---- listing
 
@@ -81,7 +81,7 @@ hands-part b c store part offset size answer place bytes =
     record {
       accepts = λ _.
           record {
-            place = place ∙ ap (λ (k : ℕ). (ptr store .0, k)) (let z : offset + ptr store .1 ≡ ptr store .1 + pairOffset b c = omega (arith, o) in z);
+            place = place ∙ ap (λ (k : ℕ). (ptr store .0, k)) (let z : offset + ptr store .1 ≡ ptr store .1 + pairRowAt b c = omega (arith, o) in z);
             bytes = bytes ∙ ap₂ (λ (s k : ℕ). take s (drop k (now store))) (let z : (offset + size) - offset ≡ width b = omega (arith, w) in z) o;
           };
       refuses = λ number at f. absurd (never e f);

@@ -6,3 +6,4 @@ pub mod Unique
 pub mod Partitions
 pub mod DemandLookup
 pub mod DemandListing
+pub mod Refusals

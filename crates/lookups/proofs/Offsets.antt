@@ -15,40 +15,31 @@ use Rattle.blocks.specs.declared.Shape.{Shape}
 use Rattle.blocks.specs.Layout.{shapeOf, place, rowOf, table, tableLength}
 use Rattle.blocks.proofs.Places.{row-within}
 use Rattle.occurrence.specs.Marking.{InTable}
-use Rattle.store.specs.Parts.{Sized, Clear, width, rowCount, axiomRows, inForce, held}
-use Rattle.store.proofs.Sizes.{table-long, used-split, used-rows, rows-split, width-fits, shape-table}
+use Rattle.store.specs.Parts.{Sized, Clear, width, pairRowAt, rowCount, axiomRows, inForce, held}
+use Rattle.store.proofs.Sizes.{table-long, used-split, used-rows, rows-split, width-fits, shape-table, shape-concepts, shape-width}
 use Rattle.store.proofs.StoreRows.{held-bit, in-force-range}
-use Rattle.lookups.specs.Rows.{pairOffset}
 
 -- A pair row begins before byte 65,536.
-pub offset-limit : (b : List ℕ) (c : ℕ) → WellFormed b → c < concepts b → pairOffset b c ≤ 65536
-unfolding pairOffset width
+pub offset-limit : (b : List ℕ) (c : ℕ) → WellFormed b → c < concepts b → pairRowAt b c ≤ 65536
+unfolding pairRowAt width
 offset-limit b c f l = mul-le-mul {n₂ = 1024} {m₂ = 64} (omega arith) (omega arith)
 
 -- A pair is a bit of its row.
-pub held-pair : (b store : List ℕ) (c d : ℕ) → c < concepts b → d < concepts b → held b store (pair c d) ≡ bit store (8 * pairOffset b c + d)
-unfolding place rowOf pairOffset
+pub held-pair : (b store : List ℕ) (c d : ℕ) → c < concepts b → d < concepts b → held b store (pair c d) ≡ bit store (8 * pairRowAt b c + d)
+unfolding place rowOf pairRowAt
 held-pair b store c d lc ld = held-bit b store c 0 d lc (omega arith) (omega (arith, width-fits b))
 
 -- The row of a concept lies within a store that is long enough.
-pub row-in-store : (b store : List ℕ) (c : ℕ) → Sized b store → c < concepts b → pairOffset b c + width b ≤ length store
-unfolding pairOffset
+pub row-in-store : (b store : List ℕ) (c : ℕ) → Sized b store → c < concepts b → pairRowAt b c + width b ≤ length store
+unfolding pairRowAt
 row-in-store b store c s l =
     let inside : (concepts b + c) * width b + width b ≤ rowCount b * width b = row-within (width b) (concepts b + c) (rowCount b) (omega (arith, rows-split b)) in
     omega (arith, used-rows b, s .long)
 
 -- The same by a catalogue's shape.
-pub shape-offset : (b : List ℕ) {s : Shape} (c : ℕ) → s ≡ shapeOf b → (s .concepts + c) * s .width ≡ pairOffset b c
-unfolding shapeOf width pairOffset
+pub shape-offset : (b : List ℕ) {s : Shape} (c : ℕ) → s ≡ shapeOf b → (s .concepts + c) * s .width ≡ pairRowAt b c
+unfolding shapeOf width pairRowAt
 shape-offset b c e = ap (λ (s : Shape). (s .concepts + c) * s .width) e
-
-pub shape-concepts : (b : List ℕ) {s : Shape} → s ≡ shapeOf b → s .concepts ≡ concepts b
-unfolding shapeOf
-shape-concepts b e = ap (λ (s : Shape). s .concepts) e
-
-pub shape-width : (b : List ℕ) {s : Shape} → s ≡ shapeOf b → s .width ≡ width b
-unfolding shapeOf width
-shape-width b e = ap (λ (s : Shape). s .width) e
 
 pub width-limit : {b : List ℕ} {s : Shape} → WellFormed b → s ≡ shapeOf b → s .width ≤ 64
 unfolding width

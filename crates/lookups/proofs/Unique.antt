@@ -10,11 +10,11 @@ use Rattle.catalogue.specs.Outcome.{Outcome, accepted, refused}
 use Rattle.rows.specs.Bits.{bit}
 use Rattle.rules.specs.Rules.{pair}
 use Rattle.blocks.proofs.RowParts.{bit-mid}
-use Rattle.store.specs.Parts.{width, held}
+use Rattle.store.specs.Parts.{width, pairRowAt, held}
 use Rattle.store.proofs.Sizes.{width-fits}
 use Rattle.lookups.specs.Checks.{readChecks, listChecks}
 use Rattle.lookups.specs.Listings.{kindsUnder, listed, listAfter, Lists}
-use Rattle.lookups.specs.Rows.{pairOffset, HandsOut}
+use Rattle.lookups.specs.Rows.{HandsOut}
 use Rattle.lookups.specs.declared.kinds.Listed.{Listed}
 use Rattle.lookups.specs.declared.kinds.Listed.the-variants.{Refused}
 use Rattle.lookups.proofs.Acceptance.{read-named, named-one}
@@ -45,7 +45,7 @@ hands-unique b c store part part' p q = (go _ refl, λ e. p .accepts e .place �
 -- The bits of the part handed out are the pairs of the concept.
 pub row-holds : (b : List ℕ) (c : ℕ) (store part : RefT (List ℕ)) → HandsOut b c store part → readChecks b (c ∷ []) (now store) ≡ accepted → (d : ℕ) → d < concepts b → bit (now part) d ≡ held b (now store) (pair c d)
 row-holds b c store part h e d l =
-    let o = pairOffset b c in
+    let o = pairRowAt b c in
     let lc = named-one b c (now store) (read-named b (c ∷ []) (now store) e) in
     ap (λ (xs : List ℕ). bit xs d) (h .accepts e .bytes)
     ∙ ap (λ (k : ℕ). bit (take k (drop o (now store))) d) (let z : width b ≡ (o + width b) - o = omega arith in z)

@@ -1,19 +1,14 @@
 -- A concept's row: the answer, and the part of the caller's own store that is handed out (document 01, Store; Which shape goes where).
-use Prim.Native.Nat.{ℕ, _+_, _*_}
+use Prim.Native.Nat.{ℕ, _+_}
 use mathlib.Core.Path.{_≡_}
 use mathlib.Core.List.{List, [], _∷_}
 use lib.ListN.{take, drop}
 use denote.Ref.{RefT, ptr, now}
-use Rattle.catalogue.specs.Header.{concepts}
 use Rattle.catalogue.specs.Outcome.{Outcome, accepted, refused}
-use Rattle.store.specs.Parts.{width}
+use Rattle.store.specs.Parts.{width, pairRowAt}
 use Rattle.lookups.specs.Checks.{readChecks}
 use Rattle.lookups.specs.declared.handing.Handed.{Handed}
 use Rattle.lookups.specs.declared.handing.Handed.the-variants.{Row, Refused}
-
--- Where the pair row of concept C begins: after the n axiom rows and the pair rows of the concepts before it.
-unfoldable pub pairOffset : List ℕ → ℕ → ℕ
-pairOffset b c = (concepts b + c) * width b
 
 -- `Row o w`: every question is answered yes, and the row stands from byte o of the store, w bytes long.
 -- `Refused n r`: question n is answered no, and record r is at fault (0 where none is named).
@@ -23,7 +18,7 @@ handed (refused number at) offset size = Refused number at
 
 -- The answer to a row asked for.
 unfoldable pub rowAnswer : (b : List ℕ) (c : ℕ) (store : List ℕ) → Handed
-rowAnswer b c store = handed (readChecks b (c ∷ []) store) (pairOffset b c) (width b)
+rowAnswer b c store = handed (readChecks b (c ∷ []) store) (pairRowAt b c) (width b)
 
 -- A slice is the part of another from a byte on, so many bytes long: it points into the same memory, and has the same bytes.
 pub record PartOf (whole : RefT (List ℕ)) (offset size : ℕ) (part : RefT (List ℕ)) : Type 0 where
@@ -33,5 +28,5 @@ pub record PartOf (whole : RefT (List ℕ)) (offset size : ℕ) (part : RefT (Li
 -- The part handed out: accepted, the concept's pair row where it stands in the caller's store; refused, the empty part. Where an empty part
 -- points is free.
 pub record HandsOut (b : List ℕ) (c : ℕ) (store part : RefT (List ℕ)) : Type 0 where
-  pub accepts : readChecks b (c ∷ []) (now store) ≡ accepted → PartOf store (pairOffset b c) (width b) part
+  pub accepts : readChecks b (c ∷ []) (now store) ≡ accepted → PartOf store (pairRowAt b c) (width b) part
   pub refuses : (number at : ℕ) → readChecks b (c ∷ []) (now store) ≡ refused number at → now part ≡ []

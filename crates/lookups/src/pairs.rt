@@ -4,9 +4,8 @@ ghost use Prim.Native.Nat.{_<_};
 ghost use Rattle.catalogue.specs.Header.{concepts};
 ghost use Rattle.catalogue.specs.WellFormed.{WellFormed};
 ghost use Rattle.rules.specs.Rules.{pair};
-ghost use Rattle.store.specs.Parts.{Sized, held};
+ghost use Rattle.store.specs.Parts.{Sized, pairRowAt, held};
 ghost use Rattle.lookups.specs.Answers.{lookedUp};
-ghost use Rattle.lookups.specs.Rows.{pairOffset};
 use super::checks::check_reading;
 use blocks::Shape;
 use catalogue::Verdict;
@@ -21,7 +20,7 @@ pub enum Looked {
 // Where the pair row of concept c begins in a store.
 pub fn pair_offset(b: &[u8], c: usize) -> usize
     requires { ⌜ WellFormed (now b) × (c < concepts (now b)) ⌝ }
-    ensures { λ r. ⌜ r ≡ pairOffset (now (b .entry)) c ⌝ }
+    ensures { λ r. ⌜ r ≡ pairRowAt (now (b .entry)) c ⌝ }
 {
     let s = Shape::of(b);
     let n = s.concepts;

@@ -3,28 +3,15 @@
 // each, low byte first; then the catalogue and the store. The input has W1, W4, W8, W9 and W10 of document 01, a case for each refusal, and others.
 ghost use Prim.Native.Nat.{_+_, _≤_, _<_};
 ghost use lib.ListN.{length};
+use cases::fill;
+use cases::say;
+use cases::say_refused;
+use cases::short_at;
 use libc::STDIN_FILENO;
 use libc::STDOUT_FILENO;
 use lookups::Handed;
 use lookups::Listed;
 use lookups::Looked;
-
-// The number at a byte of the input.
-fn number_at(text: &[u8], at: usize) -> usize
-    requires { ⌜ at + 1 < length (now text) ⌝ }
-    ensures { λ r. ⌜ r < 65536 ⌝ }
-{
-    catalogue::word(text, at)
-}
-
-// Fills a list with bytes that no entry has, so that what is written shows.
-fn fill(list: &mut [u8]) {
-    let mut i = 0;
-    while i < list.len() {
-        list[i] = 195;
-        i += 1;
-    }
-}
 
 // Writes bytes in hexadecimal digits.
 fn say_digits(bytes: &[u8]) {
@@ -40,18 +27,6 @@ fn say_bytes(bytes: &[u8]) {
     io::write_all(STDOUT_FILENO, b" ");
     say_digits(bytes);
     io::write_all(STDOUT_FILENO, b"\n");
-}
-
-// Writes a word and a number.
-fn say(word: &[u8], number: usize) {
-    io::write_all(STDOUT_FILENO, word);
-    io::print_decimal(STDOUT_FILENO, number as u64);
-}
-
-// Writes a refusal.
-fn say_refused(number: usize, record: usize) {
-    say(b"refused ", number);
-    say(b" ", record);
 }
 
 // Answers a lookup.
@@ -73,7 +48,7 @@ fn run_lookup(b: &[u8], c: usize, d: usize, store: &[u8]) {
 
 // Answers a listing, with the whole list as it is left.
 fn run_listing(b: &[u8], d: usize, store: &[u8], list: &mut [u8]) {
-    fill(list);
+    fill(list, 195);
     let answer = lookups::listing(b, d, store, list);
     match answer {
         Listed::Count(count) => say(b"listed ", count),
@@ -109,13 +84,13 @@ fn run_case(text: &[u8], at: usize, list: &mut [u8]) -> usize
     requires { ⌜ at + 12 ≤ length (now text) ⌝ }
     ensures { λ r. ⌜ (at < r) × (r ≤ length (now (text .entry))) ⌝ }
 {
-    let call = number_at(text, at);
-    let c = number_at(text, at + 2);
-    let d = number_at(text, at + 4);
-    let long = number_at(text, at + 6);
+    let call = short_at(text, at);
+    let c = short_at(text, at + 2);
+    let d = short_at(text, at + 4);
+    let long = short_at(text, at + 6);
     let start = at + 12;
-    let middle = start + number_at(text, at + 8);
-    let end = middle + number_at(text, at + 10);
+    let middle = start + short_at(text, at + 8);
+    let end = middle + short_at(text, at + 10);
     if text.len() < end {
         return text.len();
     }

@@ -66,14 +66,13 @@ pub fn or_into(row: &mut [u8], other: &[u8])
 pub fn any(row: &[u8]) -> bool
     ensures { λ r. ⌜ r ≡ anyBit (now (row .entry)) ⌝ }
 {
+    let mut found = false;
     let mut i = 0;
     while i < row.len() {
-        if row[i] != 0 {
-            return true;
-        }
+        found |= row[i] != 0;
         i += 1;
     }
-    false
+    found
 }
 
 // How many bits are set.

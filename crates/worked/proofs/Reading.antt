@@ -23,7 +23,7 @@ use Rattle.rules.specs.Occurrence.{Occurs, occurs}
 use Rattle.rules.specs.Rules.{Expression, pair, Closure}
 use Rattle.rules.proofs.Occurrence.{occurs-exact}
 use Rattle.blocks.specs.Layout.{shapeOf, place, rowOf, marks, blockLength, tableLength}
-use Rattle.store.specs.Parts.{width, used, setRows, inForce, held, rowCount, setFrom, spareClear}
+use Rattle.store.specs.Parts.{width, used, pairRowAt, setRows, inForce, held, rowCount, setFrom, spareClear}
 use Rattle.store.specs.Written.{numbered, axiomCount, rising, written}
 use Rattle.store.specs.Fresh.{Fresh}
 use Rattle.store.specs.Checks.{storeFits, listFits, axiomsInLimit, askStore, askList, askSpare}
@@ -31,12 +31,12 @@ use Rattle.store.proofs.Examples.{w1-axiom-count, w1-written}
 use Rattle.lookups.specs.Checks.{every, askNumbers, askOccurs, openChecks, contentChecks, readChecks, listChecks}
 use Rattle.lookups.specs.Answers.{lookedUp}
 use Rattle.lookups.specs.Listings.{atomicUnder, kindsUnder, withFront, listed, listAfter}
-use Rattle.lookups.specs.Rows.{pairOffset, rowAnswer}
+use Rattle.lookups.specs.Rows.{rowAnswer}
 use Rattle.lookups.specs.declared.pairs.Looked.the-variants.{Yes, No, Refused}
 use Rattle.lookups.specs.declared.handing.Handed.the-variants.{Row}
 use Rattle.lookups.proofs.Answered.{looked-up, row-accepted}
 use Rattle.lookups.proofs.DemandLookup.{content-asks, open-passes, read-asks, lookup-means}
-use Rattle.writing.specs.Write.{outputFits, writeChecks}
+use Rattle.writing.specs.Write.{outputFits, writeChecks, Writes}
 use Rattle.writing.specs.declared.Wrote.the-variants.{Length}
 use Rattle.writing.proofs.Order.{writes-all, catalogue-first}
 use Rattle.writing.proofs.Unique.{by-outcome-unique}
@@ -112,7 +112,7 @@ module _ (store : List ℕ) (fresh : Fresh w1 axioms1 store) where
   )
 
   pub w1-row : (rowAnswer w1 0 store ≡ Row 7 1) × (take 1 (drop 7 store) ≡ 89 ∷ [])
-  unfolding word concepts w1 width pairOffset w1Store
+  unfolding word concepts w1 width pairRowAt w1Store
   w1-row = (row-accepted w1 0 store (asks (0 ∷ []) ∙ named0), ap (λ (l : List ℕ). take 1 (drop 7 l)) (w1-split store fresh))
 
   -- It holds what W1's store holds, and so lists the same.
@@ -153,19 +153,23 @@ module _ (store : List ℕ) (fresh : Fresh w1 axioms1 store) where
   written-back : written w1 (inForce w1 store) ≡ w1
   written-back = ap (written w1) same-axioms ∙ w1-written
 
-  pub w1-write : WriteGives w1 store 80 w1
+  -- Write into an output that is long enough.
+  pub w1-writes : (output : List ℕ) → 80 ≤ length output → Writes w1 store output (Length 80) (w1 ++ drop 80 output)
   unfolding storeFits axiomsInLimit outputFits
-  w1-write output answer output' w long =
+  w1-writes output long =
       let left : List ℕ = w1 ++ drop 80 output in
       let size : length (written w1 (inForce w1 store)) ≡ 80 = ap (λ (l : List ℕ). length l) written-back ∙ w1-offsets .0 in
-      by-outcome-unique w1 store output (writeChecks w1 store (length output)) answer (Length 80) output' left w
-      (catalogue-first w1 store output (Length 80) left w1-accepted
+      catalogue-first w1 store output (Length 80) left w1-accepted
       (writes-all w1 store output
       (le-leb (used w1) (length store) (fresh .long))
       (fresh .spare)
       (ap (axiomsInLimit w1) same-axioms ∙ le-leb (axiomCount w1 axioms1) 4096 few1)
       (le-leb (length (written w1 (inForce w1 store))) (length output) (omega (arith, size, long)))
-      80 left (sym size) (ap (λ (l : List ℕ). l ++ drop 80 output) (sym written-back))))
+      80 left (sym size) (ap (λ (l : List ℕ). l ++ drop 80 output) (sym written-back)))
+
+  pub w1-write : WriteGives w1 store 80 w1
+  w1-write output answer output' w long =
+      by-outcome-unique w1 store output (writeChecks w1 store (length output)) answer (Length 80) output' (w1 ++ drop 80 output) w (w1-writes output long)
 
 -- ---- W4
 

@@ -3,3 +3,4 @@ pub mod Tabling
 pub mod Whole
 pub mod Order
 pub mod Unique
+pub mod Refusals

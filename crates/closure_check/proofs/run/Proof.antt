@@ -1,5 +1,5 @@
 -- `run` meets its contract: a store that classify accepted is as long as its catalogue asks.
-use Rattle.listings.proofs.Sizes.{done-sized}
+use Rattle.closure.proofs.Outcomes.{done-sized}
 use borrow.Author.Needs.{needs}
 use Rattle.closure_check.proofs.run.Statement.{statement}
 use Rattle.closure_check.proofs.run.Tie as tie

@@ -5,44 +5,44 @@ use borrow.Author.Needs.{needs}
 use Rattle.lookups_check.proofs.run_case.Statement.{statement}
 use Rattle.lookups_check.proofs.run_case.Tie as tie
 
-number-at-requires : tie.Need-number-at-requires
-number-at-requires c κs = search needs
+short-at-requires : tie.Need-short-at-requires
+short-at-requires c κs = search needs
 
-add-number-at : tie.Need-add-number-at
-add-number-at c = search needs
+add-short-at : tie.Need-add-short-at
+add-short-at c = search needs
 
-number-at-requires-2 : tie.Need-number-at-requires-2
-number-at-requires-2 c κs = search needs
+short-at-requires-2 : tie.Need-short-at-requires-2
+short-at-requires-2 c κs = search needs
 
-add-number-at-2 : tie.Need-add-number-at-2
-add-number-at-2 c = search needs
+add-short-at-2 : tie.Need-add-short-at-2
+add-short-at-2 c = search needs
 
-number-at-requires-3 : tie.Need-number-at-requires-3
-number-at-requires-3 c κs = search needs
+short-at-requires-3 : tie.Need-short-at-requires-3
+short-at-requires-3 c κs = search needs
 
-add-number-at-3 : tie.Need-add-number-at-3
-add-number-at-3 c = search needs
+add-short-at-3 : tie.Need-add-short-at-3
+add-short-at-3 c = search needs
 
-number-at-requires-4 : tie.Need-number-at-requires-4
-number-at-requires-4 c κs = search needs
+short-at-requires-4 : tie.Need-short-at-requires-4
+short-at-requires-4 c κs = search needs
 
 add-start : tie.Need-add-start
 add-start c = search needs
 
-add-number-at-4 : tie.Need-add-number-at-4
-add-number-at-4 c = search needs
+add-short-at-4 : tie.Need-add-short-at-4
+add-short-at-4 c = search needs
 
-number-at-requires-5 : tie.Need-number-at-requires-5
-number-at-requires-5 c κs = search needs
+short-at-requires-5 : tie.Need-short-at-requires-5
+short-at-requires-5 c κs = search needs
 
 add-middle : tie.Need-add-middle
 add-middle c = search needs
 
-add-number-at-5 : tie.Need-add-number-at-5
-add-number-at-5 c = search needs
+add-short-at-5 : tie.Need-add-short-at-5
+add-short-at-5 c = search needs
 
-number-at-requires-6 : tie.Need-number-at-requires-6
-number-at-requires-6 c κs = search needs
+short-at-requires-6 : tie.Need-short-at-requires-6
+short-at-requires-6 c κs = search needs
 
 add-end : tie.Need-add-end
 add-end c = search needs
@@ -90,19 +90,19 @@ pub run-case-spec : {M : Type 1} → statement M
 run-case-spec =
     tie.close
     (tie.spec
-    number-at-requires
-    add-number-at
-    number-at-requires-2
-    add-number-at-2
-    number-at-requires-3
-    add-number-at-3
-    number-at-requires-4
+    short-at-requires
+    add-short-at
+    short-at-requires-2
+    add-short-at-2
+    short-at-requires-3
+    add-short-at-3
+    short-at-requires-4
     add-start
-    add-number-at-4
-    number-at-requires-5
+    add-short-at-4
+    short-at-requires-5
     add-middle
-    add-number-at-5
-    number-at-requires-6
+    add-short-at-5
+    short-at-requires-6
     add-end
     returns
     returns-2

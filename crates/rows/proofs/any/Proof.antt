@@ -1,31 +1,41 @@
--- `rows::any` meets its contract: every byte passed is 0.
-use mathlib.Core.Path.{sym, _≡_}
+-- `rows::any` meets its contract: where none is found every byte passed is 0, and where one is found a bit is set.
+use mathlib.Core.Path.{_≡_, refl, sym}
+use mathlib.Core.Bool.{Bool, true, false, _||_, not, true≢false}
+use Rattle.rows.specs.Bits.{anyBit}
 use Rattle.rows.proofs.Lowest.{any-nonzero, any-zero}
 use borrow.Author.Needs.{needs}
 use borrow.Author.Count.{below-more}
+use borrow.Author.Tests.{eqb-true, eqb-false, not-true, not-false}
 use Prim.Native.Nat.{ℕ, _-_, _≤_, _<_}
 use native.Mathlib.Omega.{arith}
 use lib.ListN.{length, getD}
+use lib.Dec.{eqb}
 use Rattle.rows.proofs.any.Statement.{statement}
 use Rattle.rows.proofs.any.Tie as tie
 
+neither : (a b : Bool) → (a || b) ≡ false → (a ≡ false) × (b ≡ false)
+neither true b e = absurd (true≢false e)
+neither false b e = (refl, e)
+
+one-of : {P : Type 0} (a b : Bool) → (a || not b) ≡ true → (a ≡ true → P) → (b ≡ false → P) → P
+one-of true b e p q = p refl
+one-of false b e p q = q (not-true b e)
+
+decided : (a b : Bool) → (a ≡ true → b ≡ true) → (a ≡ false → b ≡ false) → a ≡ b
+decided true b p q = sym (p refl)
+decided false b p q = sym (q refl)
+
 abbrev Inv-loop : tie.InvT-loop
-Inv-loop row i₀ i = (i ≤ length row) × ((k : ℕ) → k < i → getD row k 0 ≡ 0)
+Inv-loop row found₀ i₀ found i = (i ≤ length row) × (found ≡ false → (k : ℕ) → k < i → getD row k 0 ≡ 0) × (found ≡ true → anyBit row ≡ true)
 
 abbrev μ-loop : tie.MeasureT-loop
-μ-loop row i₀ i = length row - i
+μ-loop row found₀ i₀ found i = length row - i
 
 loop-holds : tie.Need-loop-holds Inv-loop μ-loop
-loop-holds c = search needs
+loop-holds c = (search needs, λ e k l. absurd (let z : ⊥ = omega arith in z), λ e. absurd (true≢false (sym e)))
 
-shared-slice-read-if1 : tie.Need-shared-slice-read-if1 Inv-loop μ-loop
-shared-slice-read-if1 c = search needs
-
-returns : tie.Need-returns Inv-loop μ-loop
-returns c =
-    let i = c .before .before .before .loop .i in
-    let row = c .before .before .before .before .args .row .now in
-    sym (any-nonzero row i (omega arith) (c .before .shared-slice-known .given i .fits) (c .if1 .taken))
+shared-slice-read-found : tie.Need-shared-slice-read-found Inv-loop μ-loop
+shared-slice-read-found c = search needs
 
 add-i : tie.Need-add-i Inv-loop μ-loop
 add-i c = search needs
@@ -34,12 +44,17 @@ loop-less : tie.Need-loop-less Inv-loop μ-loop
 loop-less c = search needs
 
 loop-again : tie.Need-loop-again Inv-loop μ-loop
-loop-again c = (search needs, below-more _ _ (c .before .before .before .loop .inv .1) (c .if1 .left))
+loop-again c =
+    let row = c .before .before .before .args .row .now in
+    let l = c .before .before .loop in
+    let byte = getD row (l .i) 0 in (
+      search needs,
+      λ e. below-more _ _ (l .inv .1 (neither (l .found) (not (eqb byte 0)) e .0)) (eqb-true byte 0 (not-false (eqb byte 0) (neither (l .found) (not (eqb byte 0)) e .1))),
+      λ e. one-of (l .found) (eqb byte 0) e (l .inv .2) (λ n. any-nonzero row (l .i) (c .before .loop-test .taken) (c .shared-slice-known .given (l .i) .fits) (eqb-false byte 0 n)),
+    )
 
-returns-2 : tie.Need-returns-2 Inv-loop μ-loop
-returns-2 c =
-    let row = c .before .before .args .row .now in
-    sym (any-zero row (λ k l. c .before .loop .inv .1 k (omega arith)))
+returns : tie.Need-returns Inv-loop μ-loop
+returns c = decided (c .before .loop .found) (anyBit (c .before .before .args .row .now)) (c .before .loop .inv .2) (λ e. any-zero (c .before .before .args .row .now) (λ k l. c .before .loop .inv .1 e k (omega arith)))
 
 pub any-spec : {M : Type 1} → statement M
 any-spec =
@@ -48,9 +63,8 @@ any-spec =
     Inv-loop
     μ-loop
     loop-holds
-    shared-slice-read-if1
-    returns
+    shared-slice-read-found
     add-i
     loop-less
     loop-again
-    returns-2)
+    returns)

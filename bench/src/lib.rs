@@ -1,0 +1,9 @@
+//! The library's calls from Rust, and the same in plain Rust to time them against.
+//!
+//! - `exported`: the functions of the archive, with slices for pointers and lengths
+//! - `calls`: the same with the reference's results
+//! - `plain`: classification and the calls that read a store, in plain Rust
+
+pub mod calls;
+pub mod exported;
+pub mod plain;

@@ -1,0 +1,37 @@
+// What programs share that run the cases of their input: the input's numbers, buffers filled before a call, and answers in words and numbers.
+ghost use mathlib.Core.Path.{_≡_};
+ghost use Prim.Native.Nat.{_+_, _<_};
+ghost use lib.ListN.{length, replicate};
+ghost use Rattle.catalogue.specs.Words as words;
+use libc::STDOUT_FILENO;
+
+// The number at a byte of the input, in two bytes.
+pub fn short_at(text: &[u8], at: usize) -> usize
+    requires { ⌜ at + 1 < length (now text) ⌝ }
+    ensures { λ r. ⌜ (r ≡ words.word (now (text .entry)) at) × (r < 65536) ⌝ }
+{
+    catalogue::word(text, at)
+}
+
+// Fills a buffer with one byte, so that what a call writes shows.
+pub fn fill(buffer: &mut [u8], byte: u8)
+    ensures { λ _. ⌜ now (buffer .exit) ≡ replicate (length (now (buffer .entry))) byte ⌝ }
+{
+    let mut i = 0;
+    while i < buffer.len() {
+        buffer[i] = byte;
+        i += 1;
+    }
+}
+
+// Writes a word and a number.
+pub fn say(word: &[u8], number: usize) {
+    io::write_all(STDOUT_FILENO, word);
+    io::print_decimal(STDOUT_FILENO, number as u64);
+}
+
+// Writes a refusal.
+pub fn say_refused(number: usize, record: usize) {
+    say(b"refused ", number);
+    say(b" ", record);
+}
