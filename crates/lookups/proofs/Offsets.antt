@@ -16,7 +16,7 @@ use Rattle.blocks.specs.Layout.{shapeOf, place, rowOf, table, tableLength}
 use Rattle.blocks.proofs.Places.{row-within}
 use Rattle.occurrence.specs.Marking.{InTable}
 use Rattle.store.specs.Parts.{Sized, Clear, width, pairRowAt, rowCount, axiomRows, inForce, held}
-use Rattle.store.proofs.Sizes.{table-long, used-split, used-rows, rows-split, width-fits, shape-table}
+use Rattle.store.proofs.Sizes.{table-long, used-split, used-rows, rows-split, width-fits, shape-table, shape-concepts, shape-width}
 use Rattle.store.proofs.StoreRows.{held-bit, in-force-range}
 
 -- A pair row begins before byte 65,536.
@@ -40,14 +40,6 @@ row-in-store b store c s l =
 pub shape-offset : (b : List ℕ) {s : Shape} (c : ℕ) → s ≡ shapeOf b → (s .concepts + c) * s .width ≡ pairRowAt b c
 unfolding shapeOf width pairRowAt
 shape-offset b c e = ap (λ (s : Shape). (s .concepts + c) * s .width) e
-
-pub shape-concepts : (b : List ℕ) {s : Shape} → s ≡ shapeOf b → s .concepts ≡ concepts b
-unfolding shapeOf
-shape-concepts b e = ap (λ (s : Shape). s .concepts) e
-
-pub shape-width : (b : List ℕ) {s : Shape} → s ≡ shapeOf b → s .width ≡ width b
-unfolding shapeOf width
-shape-width b e = ap (λ (s : Shape). s .width) e
 
 pub width-limit : {b : List ℕ} {s : Shape} → WellFormed b → s ≡ shapeOf b → s .width ≤ 64
 unfolding width

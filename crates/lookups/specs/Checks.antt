@@ -1,8 +1,8 @@
 -- The checks of the calls that read a store (document 01: their questions), each composed of the named questions in their order.
 use Prim.Native.Nat.{ℕ}
 use mathlib.Core.Path.{_≡_}
-use mathlib.Core.Bool.{Bool, true, _&&_}
-use mathlib.Core.List.{List, [], _∷_}
+use mathlib.Core.Bool.{true}
+use mathlib.Core.List.{List}
 use lib.Dec.{ltb}
 use lib.ListN.{length}
 use Rattle.catalogue.specs.Header.{concepts}
@@ -11,11 +11,8 @@ use Rattle.catalogue.specs.Checks.{catalogueChecks}
 use Rattle.rules.specs.Occurrence.{Marking, occurs}
 use Rattle.store.specs.Parts.{Clear, inForce, spareClear}
 use Rattle.store.specs.Checks.{askStore, askList, askSpare, askLimit, axiomsInLimit}
-
 -- Every concept that a call names passes a test.
-unfoldable pub every : (ℕ → Bool) → List ℕ → Bool
-every test [] = true
-every test (c ∷ names) = test c && every test names
+unfoldable pub use Rattle.derivation.specs.Finite.{each as every}
 
 -- 15: concept numbers below n?
 unfoldable pub askNumbers : List ℕ → List ℕ → Outcome → Outcome

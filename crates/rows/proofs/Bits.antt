@@ -9,7 +9,7 @@ use native.Mathlib.Omega.{arith}
 use native.Mathlib.Decide.{decLt, ℕ-discrete}
 use borrow.Author.Tests.{eq-eqb, ne-eqb}
 use borrow.Rule.Slice.PartMut.{putMid, midOf, set-mid-at, mid-len}
-use lib.ListN.{length, getD, set, drop, length-set, List·getD-eq-default}
+use lib.ListN.{length, getD, set, drop, replicate, length-set, length-replicate, getD-replicate, List·getD-eq-default}
 use lib.Seq.{getD-set-same, getD-set-other, getD-take, getD-drop, ext-getD, set-out}
 use lib.Dec.{eqb, lit<}
 use lib.Bits.{bitAnd, bitOr, or-lt, and-lt}
@@ -136,9 +136,19 @@ pub bit-minusRow : (xs ys : List ℕ) (i : ℕ) → Bytes ys → i < 8 * length 
 unfolding minusRow less
 bit-minusRow xs ys i bs h = bit-zip byteMinus less xs ys i (λ x y k l g. byteBit-minus x y k l g) bs h
 
+-- ---- a row of zeros
+
+pub bit-zeros : (n i : ℕ) → bit (replicate n 0) i ≡ false
+unfolding bit
+bit-zeros n i =
+    elim (decLt (i / 8) n) [
+      | yes l ↦ ap (λ (x : ℕ). byteBit x (i % 8)) (getD-replicate n (i / 8) 0 0 l) ∙ byteBit-zero (i % 8)
+      | no g ↦ bit-past (replicate n 0) i (omega (arith, length-replicate {A = ℕ} n 0))
+    ]
+
 -- ---- bytes stay bytes
 
-set-bytes : (row : List ℕ) (q x : ℕ) → Bytes row → x < 256 → Bytes (set row q x)
+pub set-bytes : (row : List ℕ) (q x : ℕ) → Bytes row → x < 256 → Bytes (set row q x)
 set-bytes row q x bs hx k =
     elim (ℕ-discrete k q) [
       | no d ↦ subst (λ (y : ℕ). y < 256) (sym (getD-set-other row q k x 0 d)) (bs k)

@@ -1,6 +1,6 @@
 -- Laws of the bits of one byte, and of those of a byte list's index.
 use mathlib.Core.Path.{_≡_, refl, sym, ap, _∙_, subst}
-use mathlib.Core.Bool.{Bool, true, false, not, _&&_, _||_, false≢true}
+use mathlib.Core.Bool.{Bool, true, false, not, _&&_, _||_, false≢true, and-eq-true-iff}
 use mathlib.Core.Logic.{_⊎_, inl, inr, ⊎-elim}
 use Prim.Native.Nat.{ℕ, zero, suc, _+_, _-_, _*_, _/_, _%_, _^_, _≤_, _<_, zero-le, suc-le-suc}
 use native.Mathlib.Nat.{mod-lt, not-suc-le-zero, le-of-suc-le-suc, lt-of-lt-of-le, zero-div, div-one, div-eq-of-lt, pow-suc}
@@ -73,21 +73,13 @@ same-eq true false h = sym h
 same-eq false true h = h
 same-eq false false h = refl
 
-and-left : (a b : Bool) → (a && b) ≡ true → a ≡ true
-and-left true b h = refl
-and-left false b h = h
-
-and-right : (a b : Bool) → (a && b) ≡ true → b ≡ true
-and-right true b h = h
-and-right false b h = absurd (false≢true h)
-
 at-below : (f : ℕ → Bool) (n k : ℕ) → allBelow f n ≡ true → k < n → f k ≡ true
 unfolding allBelow
 at-below f zero k h l = absurd (not-suc-le-zero l)
 at-below f (suc n) k h l =
     ⊎-elim
-    (λ e. subst (λ (m : ℕ). f m ≡ true) (sym e) (and-left (f n) (allBelow f n) h))
-    (λ l'. at-below f n k (and-right (f n) (allBelow f n) h) l')
+    (λ e. subst (λ (m : ℕ). f m ≡ true) (sym e) (and-eq-true-iff (f n) (allBelow f n) .0 h .0))
+    (λ l'. at-below f n k (and-eq-true-iff (f n) (allBelow f n) .0 h .1) l')
     (split-last k n l)
 
 powers : (k j : ℕ) → Bool

@@ -1,12 +1,12 @@
 -- Laws of counts and of tests over the numbers below a bound, and what they say of a row, byte by byte.
 use mathlib.Core.Path.{_≡_, refl, sym, ap, ap₂, _∙_, subst}
-use mathlib.Core.Bool.{Bool, true, false, _||_, false≢true, or-true}
+use mathlib.Core.Bool.{Bool, true, false, cond, _||_, false≢true, or-true}
 use mathlib.Core.Logic.{⊎-elim}
 use mathlib.Core.List.{List}
-use Prim.Native.Nat.{ℕ, zero, suc, _+_, _*_, _/_, _%_, _^_, _≤_, _<_, suc-le-suc}
+use Prim.Native.Nat.{ℕ, zero, suc, _+_, _-_, _*_, _/_, _%_, _^_, _≤_, _<_, suc-le-suc}
 use native.Mathlib.Nat.{add-zero, add-suc, suc-add, not-suc-le-zero, le-refl, zero-add}
 use native.Mathlib.Omega.{arith}
-use native.Mathlib.Decide.{decLt}
+use native.Mathlib.Decide.{decLt, ℕ-discrete}
 use lib.ListN.{length, getD}
 use lib.Dec.{eqb}
 use lib.Count.{ones, ones-step}
@@ -16,30 +16,32 @@ use Rattle.rows.proofs.Bits.{bit-at, bit-past}
 
 -- ---- counts
 
-one-if : Bool → ℕ → ℕ
-one-if true n = suc n
-one-if false n = n
+-- One number more, which passes or fails.
+pub count-pass : (test : ℕ → Bool) (k : ℕ) → test k ≡ true → countBelow test (suc k) ≡ suc (countBelow test k)
+unfolding countBelow
+count-pass test k e = rw (e, countBelow)
 
-count-suc : (test : ℕ → Bool) (k : ℕ) → countBelow test (suc k) ≡ one-if (test k) (countBelow test k)
-unfolding countBelow one-if
-count-suc test k = elim (test k) as (λ (b : Bool). (elim b as (λ (x : Bool). ℕ) [ true ↦ suc (countBelow test k) | false ↦ countBelow test k ]) ≡ one-if b (countBelow test k)) [ true ↦ refl | false ↦ refl ]
+pub count-fail : (test : ℕ → Bool) (k : ℕ) → test k ≡ false → countBelow test (suc k) ≡ countBelow test k
+unfolding countBelow
+count-fail test k e = rw (e, countBelow)
 
 pub count-ext : (f g : ℕ → Bool) (k : ℕ) → ((j : ℕ) → j < k → f j ≡ g j) → countBelow f k ≡ countBelow g k
 unfolding countBelow
 count-ext f g zero e = refl
-count-ext f g (suc k) e =
-    count-suc f k
-    ∙ ap₂ one-if (e k (le-refl (suc k))) (count-ext f g k (λ j l. e j (omega arith)))
-    ∙ sym (count-suc g k)
+count-ext f g (suc k) e = rw (e k (le-refl (suc k)), count-ext f g k (λ j l. e j (omega arith)))
 
 pub count-le : (test : ℕ → Bool) (k : ℕ) → countBelow test k ≤ k
-unfolding countBelow one-if
+unfolding countBelow
 count-le test zero = le-refl 0
-count-le test (suc k) = subst (λ (n : ℕ). n ≤ suc k) (sym (count-suc test k)) (go (test k) (count-le test k))
+count-le test (suc k) = go (test k) (count-le test k)
   where
-    go : (b : Bool) → countBelow test k ≤ k → one-if b (countBelow test k) ≤ suc k
+    go : (b : Bool) → countBelow test k ≤ k → cond b (suc (countBelow test k)) (countBelow test k) ≤ suc k
     go true h = suc-le-suc h
     go false h = omega arith
+
+-- One more where b holds.
+one-if : Bool → ℕ → ℕ
+one-if b n = cond b (suc n) n
 
 one-if-add : (b : Bool) (m n : ℕ) → one-if b (m + n) ≡ m + one-if b n
 unfolding one-if
@@ -48,24 +50,38 @@ one-if-add false m n = refl
 
 -- The count below a + k is the count below a and that of the k numbers from a on.
 pub count-add : (test : ℕ → Bool) (a k : ℕ) → countBelow test (a + k) ≡ countBelow test a + countBelow (λ (j : ℕ). test (a + j)) k
-unfolding countBelow
+unfolding countBelow one-if
 count-add test a zero = ap (countBelow test) (add-zero a) ∙ sym (add-zero (countBelow test a))
 count-add test a (suc k) =
     ap (countBelow test) (add-suc a k)
-    ∙ count-suc test (a + k)
     ∙ ap (one-if (test (a + k))) (count-add test a k)
     ∙ one-if-add (test (a + k)) (countBelow test a) (countBelow (λ (j : ℕ). test (a + j)) k)
-    ∙ ap (λ (n : ℕ). countBelow test a + n) (sym (count-suc (λ (j : ℕ). test (a + j)) k))
+
+-- A higher bound has no smaller count.
+pub count-up : (test : ℕ → Bool) (a b : ℕ) → a ≤ b → countBelow test a ≤ countBelow test b
+count-up test a b l =
+    let whole : a + (b - a) ≡ b = omega arith in
+    subst (λ (n : ℕ). countBelow test a ≤ countBelow test n) whole
+    (subst (λ (n : ℕ). countBelow test a ≤ n) (sym (count-add test a (b - a))) (omega arith))
+
+-- Numbers that fail add nothing.
+pub count-none : (test : ℕ → Bool) (k : ℕ) → ((j : ℕ) → j < k → test j ≡ false) → countBelow test k ≡ 0
+unfolding countBelow
+count-none test zero e = refl
+count-none test (suc k) e = count-fail test k (e k (le-refl (suc k))) ∙ count-none test k (λ j l. e j (omega arith))
+
+pub count-skip : (test : ℕ → Bool) (a k : ℕ) → a ≤ k → ((j : ℕ) → a ≤ j → j < k → test j ≡ false) → countBelow test k ≡ countBelow test a
+count-skip test a k l e =
+    ap (countBelow test) (let z : k ≡ a + (k - a) = omega arith in z)
+    ∙ count-add test a (k - a)
+    ∙ ap (λ (n : ℕ). countBelow test a + n) (count-none (λ (j : ℕ). test (a + j)) (k - a) (λ j h. e (a + j) (omega arith) (omega arith)))
+    ∙ add-zero (countBelow test a)
 
 -- The lowest number first, and then the others.
 count-first : (test : ℕ → Bool) (k : ℕ) → countBelow test (suc k) ≡ one-if (test 0) (countBelow (λ (j : ℕ). test (suc j)) k)
 unfolding countBelow one-if
-count-first test zero = count-suc test 0
-count-first test (suc k) =
-    count-suc test (suc k)
-    ∙ ap (one-if (test (suc k))) (count-first test k)
-    ∙ swap (test (suc k)) (test 0) (countBelow (λ (j : ℕ). test (suc j)) k)
-    ∙ ap (one-if (test 0)) (sym (count-suc (λ (j : ℕ). test (suc j)) k))
+count-first test zero = refl
+count-first test (suc k) = ap (one-if (test (suc k))) (count-first test k) ∙ swap (test (suc k)) (test 0) (countBelow (λ (j : ℕ). test (suc j)) k)
   where
     swap : (a b : Bool) (n : ℕ) → one-if a (one-if b n) ≡ one-if b (one-if a n)
     swap true true n = refl
@@ -110,6 +126,12 @@ some-at test (suc k) j l h =
     (λ l'. ap (λ (b : Bool). test k || b) (some-at test k j l' h) ∙ or-true (test k))
     (split-last j k l)
 
+-- Tests that agree below k.
+pub some-ext : (f g : ℕ → Bool) (k : ℕ) → ((j : ℕ) → j < k → f j ≡ g j) → someBelow f k ≡ someBelow g k
+unfolding someBelow
+some-ext f g zero e = refl
+some-ext f g (suc k) e = ap₂ _||_ (e k (le-refl (suc k))) (some-ext f g k (λ j l. e j (omega arith)))
+
 pub some-none : (test : ℕ → Bool) (k : ℕ) → ((j : ℕ) → j < k → test j ≡ false) → someBelow test k ≡ false
 unfolding someBelow
 some-none test zero e = refl
@@ -124,6 +146,16 @@ some-which test (suc k) h = go (test k) refl h (λ g. some-which test k g)
     go : (b : Bool) → test k ≡ b → (b || someBelow test k) ≡ true → (someBelow test k ≡ true → (j : ℕ) × (j < k) × (test j ≡ true)) → (j : ℕ) × (j < suc k) × (test j ≡ true)
     go true e g ih = (k, le-refl (suc k), e)
     go false e g ih = let w = ih g in (w .0, omega (arith, w .1), w .2)
+
+-- Numbers whose tests fail add nothing.
+pub some-skip : (test : ℕ → Bool) (k j : ℕ) → k ≤ j → ((a : ℕ) → k ≤ a → a < j → test a ≡ false) → someBelow test j ≡ someBelow test k
+unfolding someBelow
+some-skip test k zero l e = ap (someBelow test) (let z : 0 ≡ k = omega arith in z)
+some-skip test k (suc j) l e =
+    elim (ℕ-discrete k (suc j)) [
+      | yes s ↦ ap (someBelow test) (sym s)
+      | no n ↦ ap (λ (b : Bool). b || someBelow test j) (e j (omega arith) (le-refl (suc j))) ∙ some-skip test k j (omega arith) (λ a p q. e a p (omega arith))
+    ]
 
 pub none-below : (test : ℕ → Bool) (k j : ℕ) → someBelow test k ≡ false → j < k → test j ≡ false
 none-below test k j h l = go (test j) refl

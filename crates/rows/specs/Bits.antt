@@ -1,6 +1,6 @@
 -- Bit rows: lists of bytes, bit i being bit i mod 8 of byte i div 8, bit 0 the lowest (document 01, Store).
 use Prim.Native.Nat.{ℕ, zero, suc, _-_, _*_, _/_, _%_, _^_, _<_}
-use mathlib.Core.Bool.{Bool, true, false, _||_}
+use mathlib.Core.Bool.{Bool, false, cond, _||_}
 use mathlib.Core.List.{List, [], _∷_}
 use lib.ListN.{length, getD, set, drop}
 use lib.Dec.{eqb}
@@ -47,7 +47,7 @@ Bytes row = (i : ℕ) → getD row i 0 < 256
 -- How many of the numbers below k pass a test, and whether one does.
 unfoldable pub countBelow : (ℕ → Bool) → ℕ → ℕ
 countBelow test zero = 0
-countBelow test (suc k) = elim (test k) [ true ↦ suc (countBelow test k) | false ↦ countBelow test k ]
+countBelow test (suc k) = cond (test k) (suc (countBelow test k)) (countBelow test k)
 
 unfoldable pub someBelow : (ℕ → Bool) → ℕ → Bool
 someBelow test zero = false

@@ -12,21 +12,13 @@ use Rattle.catalogue.specs.Records.{left, right}
 use Rattle.catalogue.specs.WellFormed.{WellFormed}
 use Rattle.rows.specs.Bits.{countBelow}
 use Rattle.rows.proofs.ByteBits.{split-last}
-use Rattle.rows.proofs.Counting.{count-ext}
-use Rattle.derivation.proofs.Decided.{by-bool, not-both, not-true-false}
+use Rattle.rows.proofs.Counting.{count-ext, count-pass, count-fail}
+use Rattle.derivation.proofs.Decided.{by-bool, not-both, not-true-false, agree}
 use Rattle.rules.specs.Axioms.{Axioms, catalogueAxioms, added, withdrawn}
 use Rattle.rules.proofs.Axioms.{catalogue-axioms-exact, added-exact, withdrawn-exact}
 use Rattle.blocks.proofs.Places.{row-within}
 use Rattle.store.specs.Written.{numbered, axiomCount}
 use Rattle.store.proofs.Written.{number-left, number-right, number-below}
-
-count-pass : (test : ℕ → Bool) (k : ℕ) → test k ≡ true → countBelow test (suc k) ≡ suc (countBelow test k)
-unfolding countBelow
-count-pass test k e = rw (e, countBelow)
-
-count-fail : (test : ℕ → Bool) (k : ℕ) → test k ≡ false → countBelow test (suc k) ≡ countBelow test k
-unfolding countBelow
-count-fail test k e = rw (e, countBelow)
 
 -- ---- numbers in a rising row
 
@@ -134,10 +126,6 @@ module _ (b : List ℕ) (F G : Axioms) (l r : ℕ) (hl : l < concepts b) (hr : r
       let er = number-right n l r hr in
       count-more (numbered n F) (numbered n G) (n * n) q (number-below n l r hl hr) (ap₂ F el er ∙ out) (ap₂ G el er ∙ within)
       (λ j d. same (j / n) (j % n) (λ (a, c). d (sym (div-add-mod' j n) ∙ ap₂ (λ (x y : ℕ). x * n + y) a c)))
-
--- Two tests that pass together are equal.
-agree : (s t : Bool) → (s ≡ true → t ≡ true) → (t ≡ true → s ≡ true) → s ≡ t
-agree s t f g = by-bool s (λ e. e ∙ sym (f e)) (λ e. by-bool t (λ h. absurd (not-both (g h) e)) (λ h. e ∙ sym h))
 
 pub added-count : (b : List ℕ) (F : Axioms) (l r : ℕ) → l < concepts b → r < concepts b → F l r ≡ false → axiomCount b (added F l r) ≡ suc (axiomCount b F)
 added-count b F l r hl hr out =

@@ -1,14 +1,14 @@
 -- The number of axioms by rows: the set bits of the axiom rows, where no spare bit is set.
-use Prim.Native.Nat.{ℕ, zero, suc, _+_, _-_, _*_, _/_, _%_, _≤_, _<_}
-use native.Mathlib.Nat.{suc-mul, zero-mul, le-refl, add-zero}
+use Prim.Native.Nat.{ℕ, zero, suc, _+_, _*_, _/_, _%_, _≤_, _<_}
+use native.Mathlib.Nat.{suc-mul, zero-mul, le-refl}
 use native.Mathlib.Omega.{arith}
-use mathlib.Core.Path.{_≡_, refl, sym, ap, ap₂, _∙_}
-use mathlib.Core.Bool.{Bool, true, false}
+use mathlib.Core.Path.{_≡_, sym, ap, ap₂, _∙_}
+use mathlib.Core.Bool.{true, false}
 use mathlib.Core.List.{List}
 use lib.ListN.{length}
 use Rattle.catalogue.specs.Header.{concepts}
 use Rattle.rows.specs.Bits.{bit, countBelow, countBits}
-use Rattle.rows.proofs.Counting.{count-ext, count-add}
+use Rattle.rows.proofs.Counting.{count-ext, count-add, count-skip}
 use Rattle.rules.specs.Axioms.{Axioms}
 use Rattle.blocks.specs.Layout.{place}
 use Rattle.blocks.proofs.Places.{place-within}
@@ -18,36 +18,19 @@ use Rattle.store.proofs.Sizes.{rows-split, width-fits}
 use Rattle.store.proofs.StoreRows.{rows-long, bit-axiom-rows, in-force-bit, spare-clear}
 use Rattle.store.proofs.Written.{number-left, number-right}
 
--- None of the numbers below k passes.
-never : (k : ℕ) → countBelow (λ _. false) k ≡ 0
-unfolding countBelow
-never zero = refl
-never (suc k) = never k
-
-count-none : (test : ℕ → Bool) (k : ℕ) → ((j : ℕ) → j < k → test j ≡ false) → countBelow test k ≡ 0
-count-none test k e = count-ext test (λ _. false) k e ∙ never k
-
-none-below-zero : (f g : ℕ → Bool) → countBelow f 0 ≡ countBelow g 0
-unfolding countBelow
-none-below-zero f g = refl
-
 -- Rows of w bytes that mark F below n and nothing from n upward.
 module _ (n w : ℕ) (F : Axioms) (rows : List ℕ) (fits : n ≤ 8 * w) (marked : (c d : ℕ) → c < n → d < n → bit rows (place w c d) ≡ F c d) (spare : (c d : ℕ) → c < n → n ≤ d → d < 8 * w → bit rows (place w c d) ≡ false) where
   row-count : (c : ℕ) → c < n → countBelow (λ d. bit rows (8 * (c * w) + d)) (8 * w) ≡ countBelow (λ d. numbered n F (c * n + d)) n
   unfolding numbered place
   row-count c l =
-      ap (countBelow (λ d. bit rows (8 * (c * w) + d))) (let z : 8 * w ≡ n + (8 * w - n) = omega arith in z)
-      ∙ count-add (λ d. bit rows (8 * (c * w) + d)) n (8 * w - n)
-      ∙ ap₂ _+_
-      (count-ext (λ d. bit rows (8 * (c * w) + d)) (λ d. F ((c * n + d) / n) ((c * n + d) % n)) n
-      (λ d h. marked c d l h ∙ sym (ap₂ F (number-left n c d h) (number-right n c d h))))
-      (count-none (λ j. bit rows (8 * (c * w) + (n + j))) (8 * w - n) (λ j h. spare c (n + j) l (omega arith) (omega arith)))
-      ∙ add-zero _
+      count-skip (λ d. bit rows (8 * (c * w) + d)) n (8 * w) fits (λ d p h. spare c d l p h)
+      ∙ count-ext (λ d. bit rows (8 * (c * w) + d)) (λ d. F ((c * n + d) / n) ((c * n + d) % n)) n
+      (λ d h. marked c d l h ∙ sym (ap₂ F (number-left n c d h) (number-right n c d h)))
 
   rows-count : (c : ℕ) → c ≤ n → countBelow (bit rows) (8 * (c * w)) ≡ countBelow (numbered n F) (c * n)
+  unfolding countBelow
   rows-count zero l =
       ap (λ k. countBelow (bit rows) (8 * k)) (zero-mul w)
-      ∙ none-below-zero (bit rows) (numbered n F)
       ∙ sym (ap (countBelow (numbered n F)) (zero-mul n))
   rows-count (suc c) l =
       ap (countBelow (bit rows)) (let z : 8 * (suc c * w) ≡ 8 * (c * w) + 8 * w = omega (arith, suc-mul c w) in z)

@@ -11,7 +11,6 @@ use Rattle.catalogue.specs.Outcome.{accepted, refused, ask, askEach, firstFault
 use Rattle.catalogue.specs.Checks.{headerFits, totalRight, countsInLimits, offsetsRight, kindRight, fieldsAsKind, fieldsRight, inclusionRight, compositionRight, sidesRight, above, risingRight, recordChecks, catalogueChecks, checked}
 use Rattle.catalogue.specs.Examples.{w1}
 use Rattle.rows.specs.Bits.{byteBit, bit, setBit, countBelow, someBelow}
-use Rattle.rules.specs.Tests.{some}
 use Rattle.rules.specs.Axioms.{catalogueAxioms}
 use Rattle.blocks.specs.Layout.{place}
 use Rattle.store.specs.Parts.{width, used, workUsed, rowCount, setFrom, spareClear}
@@ -53,9 +52,9 @@ w9-none store = ap (λ (t : Bool). ask t 13 0 accepted) (no-spare eightConcepts 
 
 -- W1 has three axioms, and written with them it is W1 again.
 pub w1-axiom-count : axiomCount w1 (catalogueAxioms w1) ≡ 3
-unfolding w1 word concepts axioms axiomsAt left right some catalogueAxioms countBelow numbered axiomCount
+unfolding w1 word concepts axioms axiomsAt left right someBelow catalogueAxioms countBelow numbered axiomCount
 w1-axiom-count = refl
 
 pub w1-written : written w1 (catalogueAxioms w1) ≡ w1
-unfolding w1 word bytesOf concepts axioms axiomsAt left right some catalogueAxioms countBelow numbered axiomCount rising sidesOf axiomRecords setWord written
+unfolding w1 word bytesOf concepts axioms axiomsAt left right someBelow catalogueAxioms countBelow numbered axiomCount rising sidesOf axiomRecords setWord written
 w1-written = refl

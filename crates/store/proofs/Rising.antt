@@ -1,6 +1,6 @@
 -- Laws of rising lists: what is listed passes the test, what passes is listed, each is above the one before, and there are as many as are counted.
-use Prim.Native.Nat.{ℕ, zero, suc, _<_}
-use native.Mathlib.Nat.{not-suc-le-zero}
+use Prim.Native.Nat.{ℕ, zero, suc, _+_, _-_, _≤_, _<_}
+use native.Mathlib.Nat.{not-suc-le-zero, add-zero, add-suc}
 use native.Mathlib.Numerals.{add-one}
 use native.Mathlib.Omega.{arith}
 use mathlib.Core.Path.{_≡_, refl, sym, ap, subst, _∙_}
@@ -11,6 +11,7 @@ use lib.ListN.{length, getD, length-append, List·getD-append}
 use lib.Seq.{getD-append-seam}
 use Rattle.rows.specs.Bits.{countBelow}
 use Rattle.rows.proofs.ByteBits.{split-last}
+use Rattle.rows.proofs.Counting.{count-pass, count-fail}
 use Rattle.derivation.proofs.Decided.{by-bool, not-both}
 use Rattle.store.specs.Written.{rising}
 
@@ -85,11 +86,18 @@ rising-lists test (suc k) =
     (λ e. subst (Lists test (suc k)) (sym (rising-pass test k e)) (listed test k (rising test k) f e))
     (λ e. subst (Lists test (suc k)) (sym (rising-fail test k e)) (skipped test k (rising test k) f e))
 
+-- Numbers that fail are passed over.
+skip-by : (test : ℕ → Bool) (a k : ℕ) → ((i : ℕ) → a ≤ i → i < a + k → test i ≡ false) → rising test (a + k) ≡ rising test a
+skip-by test a zero none = ap (rising test) (add-zero a)
+skip-by test a (suc k) none = ap (rising test) (add-suc a k) ∙ rising-fail test (a + k) (none (a + k) (omega arith) (omega arith)) ∙ skip-by test a k (λ i p q. none i p (omega arith))
+
+pub rising-skip : (test : ℕ → Bool) (a b : ℕ) → a ≤ b → ((i : ℕ) → a ≤ i → i < b → test i ≡ false) → rising test b ≡ rising test a
+rising-skip test a b l none = ap (rising test) (let whole : b ≡ a + (b - a) = omega arith in whole) ∙ skip-by test a (b - a) (λ i p q. none i p (omega arith))
+
 pub length-rising : (test : ℕ → Bool) (k : ℕ) → length (rising test k) ≡ countBelow test k
 unfolding rising countBelow
 length-rising test zero = refl
-length-rising test (suc k) = go (test k) (length-rising test k)
-  where
-    go : (t : Bool) → length (rising test k) ≡ countBelow test k → length {A = ℕ} (elim t as (λ _. List ℕ) [ true ↦ rising test k ++ (k ∷ []) | false ↦ rising test k ]) ≡ (elim t as (λ _. ℕ) [ true ↦ suc (countBelow test k) | false ↦ countBelow test k ])
-    go true e = length-append (rising test k) (k ∷ []) ∙ add-one (length (rising test k)) ∙ ap suc e
-    go false e = e
+length-rising test (suc k) =
+    by-bool (test k)
+    (λ e. ap length (rising-pass test k e) ∙ length-append (rising test k) (k ∷ []) ∙ add-one (length (rising test k)) ∙ ap suc (length-rising test k) ∙ sym (count-pass test k e))
+    (λ e. ap length (rising-fail test k e) ∙ length-rising test k ∙ sym (count-fail test k e))

@@ -1,6 +1,6 @@
 -- The rows of a store: a bit below n says what is in force or held, and one from n upward is spare.
-use Prim.Native.Nat.{ℕ, zero, suc, _+_, _-_, _*_, _/_, _%_, _≤_, _<_}
-use native.Mathlib.Nat.{add-assoc, add-mul, div-lt-iff-lt-mul, mod-lt, div-add-mod', mul-zero}
+use Prim.Native.Nat.{ℕ, suc, _+_, _-_, _*_, _/_, _%_, _≤_, _<_}
+use native.Mathlib.Nat.{add-assoc, add-mul, div-lt-iff-lt-mul, mod-lt, div-add-mod'}
 use native.Mathlib.Decide.{decLt}
 use native.Mathlib.Omega.{arith}
 use mathlib.Core.Path.{_≡_, sym, ap, _∙_}
@@ -19,7 +19,7 @@ use Rattle.rules.specs.Axioms.{InRange}
 use Rattle.rules.specs.Rules.{fact, pair, link}
 use Rattle.blocks.specs.declared.Shape.{Shape}
 use Rattle.blocks.specs.Layout.{shapeOf, place, rowOf, table, marks, tableLength, blockLength}
-use Rattle.blocks.proofs.Places.{place-within, rowOf-below}
+use Rattle.blocks.proofs.Places.{place-within, rowOf-below, some-factor}
 use Rattle.blocks.proofs.RowParts.{bit-mid}
 use Rattle.blocks.proofs.BlockRows.{table-elim}
 use Rattle.store.specs.Parts.{width, used, axiomRowAt, pairRowAt, linkRowAt, rowAt, axiomRows, setRows, inForce, held, rowCount, setFrom, spareClear}
@@ -148,10 +148,6 @@ row-cases b r l =
             )
       ]
     ]
-  where
-    some-factor : (n m q : ℕ) → q < n * m → 0 < m
-    some-factor n zero q h = absurd (let z : ⊥ = omega (arith, mul-zero n) in z)
-    some-factor n (suc m) q h = omega arith
 
 -- The axioms in force are between concepts of the catalogue.
 pub in-force-range : (b store : List ℕ) → spareClear b store ≡ true → InRange b (inForce b store)

@@ -1,17 +1,18 @@
 -- The catalogue with other axioms is made of bytes: every number that is written fits two of them.
 use Prim.Native.Nat.{ℕ, zero, suc, _+_, _-_, _*_, _/_, _%_, _≤_, _<_}
 use native.Mathlib.Nat.{div-lt-iff-lt-mul, mod-lt, not-suc-le-zero, le-of-suc-le-suc}
-use native.Mathlib.Decide.{decLt, ℕ-discrete}
+use native.Mathlib.Decide.{decLt}
 use native.Mathlib.Omega.{arith}
 use mathlib.Core.Path.{_≡_, sym, ap, subst, _∙_}
 use mathlib.Core.List.{List, [], _∷_, _++_}
 use lib.Dec.{lit<}
 use lib.ListN.{length, getD, take, set, length-take, List·getD-append, List·getD-eq-default}
-use lib.Seq.{getD-take, getD-append-add, getD-set-same, getD-set-other, set-out}
+use lib.Seq.{getD-take, getD-append-add}
 use Rattle.catalogue.specs.Words.{bytesOf}
 use Rattle.catalogue.specs.Header.{concepts, axiomsAt}
 use Rattle.catalogue.specs.WellFormed.{WellFormed}
 use Rattle.rows.specs.Bits.{Bytes}
+use Rattle.rows.proofs.Bits.{set-bytes}
 use Rattle.rules.specs.Axioms.{Axioms}
 use Rattle.store.specs.Written.{rising, numbered, axiomCount, sidesOf, axiomRecords, setWord, written}
 use Rattle.store.proofs.Rising.{rising-lists}
@@ -40,19 +41,9 @@ bytes-take k xs bx i =
       | no g ↦ subst (λ x. x < 256) (sym (List·getD-eq-default (take k xs) 0 (omega (arith, length-take k xs)))) (lit< tt)
     ]
 
-bytes-set : (xs : List ℕ) (k x : ℕ) → Bytes xs → x < 256 → Bytes (set xs k x)
-bytes-set xs k x bx h i =
-    elim (ℕ-discrete i k) [
-      | no d ↦ subst (λ y. y < 256) (sym (getD-set-other xs k i x 0 d)) (bx i)
-      | yes e ↦ elim (decLt k (length xs)) [
-        | yes l ↦ subst (λ y. y < 256) (sym (ap (λ j. getD (set xs k x) j 0) e ∙ getD-set-same xs k x 0 l)) h
-        | no g ↦ subst (λ (ys : List ℕ). getD ys i 0 < 256) (sym (set-out xs k x (omega arith))) (bx i)
-      ]
-    ]
-
 bytes-setWord : (xs : List ℕ) (i x : ℕ) → Bytes xs → x < 65536 → Bytes (setWord xs i x)
 unfolding setWord
-bytes-setWord xs i x bx h = bytes-set (set xs i (x % 256)) (i + 1) (x / 256) (bytes-set xs i (x % 256) bx (omega arith)) (omega arith)
+bytes-setWord xs i x bx h = set-bytes (set xs i (x % 256)) (i + 1) (x / 256) (set-bytes xs i (x % 256) bx (omega arith)) (omega arith)
 
 -- The bytes of numbers, and the sides of axioms.
 bytes-numbers : (ns : List ℕ) → Below 65536 ns → Below 256 (bytesOf ns)

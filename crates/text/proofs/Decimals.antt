@@ -4,10 +4,11 @@ use native.Mathlib.Nat.{pow-suc, one-le-pow, le-refl}
 use native.Mathlib.Omega.{arith}
 use borrow.Author.Tests.{ltb-true, ltb-false, lt-ltb, le-ltb}
 use mathlib.Core.Path.{_≡_, refl, sym, ap, ap₂, subst, _∙_}
-use mathlib.Core.Bool.{Bool, true, false, cond}
+use mathlib.Core.Bool.{Bool, cond}
 use mathlib.Core.List.{List, [], _∷_, _++_}
 use lib.Dec.{ltb}
 use lib.ListN.{length, length-append}
+use Rattle.derivation.proofs.Decided.{by-bool}
 use Rattle.io.specs.Digits.{digits, glyph, Fewest}
 use Rattle.text.specs.Text.{digitsOf, decimal, pairLine, newline}
 
@@ -63,10 +64,6 @@ length-digitsOf (suc most) n (suc k) h =
     let rest : length (digitsOf most (n / 10)) ≤ suc k = length-digitsOf most (n / 10) k (omega arith) in
     let more : length (digitsOf (suc most) n) ≡ length (digitsOf most (n / 10) ++ ((48 + n % 10) ∷ [])) = ap length (digitsOf-more most n (ltb-false n 10 t)) in
     omega (arith, length-append (digitsOf most (n / 10)) ((48 + n % 10) ∷ [])))
-  where
-    by-bool : (b : Bool) {C : Type 0} → (b ≡ true → C) → (b ≡ false → C) → C
-    by-bool true t f = t refl
-    by-bool false t f = f refl
 
 pub length-decimal : (n k : ℕ) → n < 10 ^ suc k → length (decimal n) ≤ suc k
 unfolding decimal

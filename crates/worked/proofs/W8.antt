@@ -12,8 +12,9 @@ use Rattle.catalogue.specs.Outcome.{accepted}
 use Rattle.catalogue.specs.Checks.{checked}
 use Rattle.catalogue.specs.WellFormed.{WellFormed}
 use Rattle.catalogue.proofs.Accepted.{accepted-well-formed}
-use Rattle.rows.specs.Bits.{bit}
-use Rattle.derivation.specs.Tables.{count}
+use Rattle.rows.specs.Bits.{bit, countBelow}
+use Rattle.rows.proofs.Counting.{count-none}
+use Rattle.rows.proofs.Bits.{bit-zeros}
 use Rattle.derivation.proofs.Decided.{not-both, not-true-false}
 use Rattle.rules.specs.Axioms.{Axioms, InRange, none, catalogueAxioms}
 use Rattle.rules.specs.Rules.{Expression, fact, Closure}
@@ -23,7 +24,6 @@ use Rattle.rules.proofs.NoAxioms.{none-derived}
 use Rattle.blocks.specs.Layout.{shapeOf, place, rowOf}
 use Rattle.blocks.proofs.Places.{place-within, rowOf-below}
 use Rattle.blocks.proofs.BlockRows.{marks-elim, table-elim}
-use Rattle.linking.proofs.Puts.{bit-zeros}
 use Rattle.store.specs.Parts.{width, used, workUsed, rowCount, axiomRows, setRows, inForce, held}
 use Rattle.store.specs.Written.{numbered, axiomCount}
 use Rattle.store.specs.Fresh.{Fresh}
@@ -33,7 +33,7 @@ use Rattle.lookups.specs.Answers.{lookedUp}
 use Rattle.lookups.specs.declared.pairs.Looked.the-variants.{Refused}
 use Rattle.lookups.proofs.DemandLookup.{no-axioms-absent}
 use Rattle.closure.proofs.Stored.{marks-fresh}
-use Rattle.closure.proofs.Sums.{sum-zero, count-none, counts-agree}
+use Rattle.closure.proofs.Sums.{sum-zero}
 use Rattle.worked.specs.Calls.{ClassifyGives}
 use Rattle.worked.proofs.Classifying.{classify-gives}
 
@@ -88,10 +88,10 @@ module _ (b store : List ℕ) (zero : take (used b) store ≡ replicate (used b)
 nothing-counted : (b : List ℕ) → countOver b (λ e. false) ≡ 0
 unfolding countOver
 nothing-counted b =
-    sum-zero (λ c. sum (λ g. count (λ d. false) (concepts b)) (suc (roles b))) (concepts b)
+    sum-zero (λ c. sum (λ g. countBelow (λ d. false) (concepts b)) (suc (roles b))) (concepts b)
     (λ c lc.
-    sum-zero (λ g. count (λ d. false) (concepts b)) (suc (roles b))
-    (λ g lg. counts-agree (λ d. false) (concepts b) ∙ count-none (λ d. false) (concepts b) (λ d ld. refl)))
+    sum-zero (λ g. countBelow (λ d. false) (concepts b)) (suc (roles b))
+    (λ g lg. count-none (λ d. false) (concepts b) (λ d ld. refl)))
 
 empty-size : (b : List ℕ) (S : Expression → Type 0) → ((e : Expression) → ¬ (S e)) → Size b S 0
 empty-size b S empty = record {

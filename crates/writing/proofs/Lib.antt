@@ -1,4 +1,3 @@
-pub mod Counted
 pub mod Recording
 pub mod Tabling
 pub mod Whole

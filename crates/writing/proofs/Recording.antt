@@ -2,20 +2,19 @@
 use mathlib.Core.Path.{_≡_, refl, sym, ap, ap₂, _∙_, subst}
 use mathlib.Core.Bool.{Bool, true, false}
 use mathlib.Core.List.{List, [], _∷_, _++_, append-assoc}
-use Prim.Native.Nat.{ℕ, zero, suc, _+_, _-_, _*_, _/_, _%_, _≤_, _<_}
-use native.Mathlib.Nat.{le-refl}
+use Prim.Native.Nat.{ℕ, suc, _+_, _-_, _*_, _/_, _%_, _≤_, _<_}
 use native.Mathlib.Omega.{arith}
 use native.Mathlib.Numerals.{add-one}
 use lib.ListN.{length, take, set, length-set, length-append}
 use lib.Seq.{take-suc-set}
 use Rattle.catalogue.specs.Words.{bytesOf}
 use Rattle.store.specs.Written.{rising, sidesOf, setWord}
-use Rattle.store.proofs.Rising.{rising-pass}
+use Rattle.store.proofs.Rising.{rising-pass, rising-skip}
 use Rattle.store.proofs.Written.{number-left, number-right}
 use Rattle.rows.specs.Bits.{bit, countBelow}
 use Rattle.rows.specs.Next.{NextBelow}
+use Rattle.rows.proofs.Counting.{count-pass, count-skip, count-up}
 use Rattle.writing.specs.Records.{Recorded, WritesRow}
-use Rattle.writing.proofs.Counted.{rising-skip, count-skip, count-pass, count-up}
 
 bytes-append : (xs ys : List ℕ) → bytesOf (xs ++ ys) ≡ bytesOf xs ++ bytesOf ys
 unfolding bytesOf

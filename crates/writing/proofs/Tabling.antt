@@ -1,14 +1,14 @@
 -- The loop over the rows of a table: the records of the left sides passed are written.
 use mathlib.Core.Path.{_≡_, refl, sym, ap, ap₂, _∙_, subst}
-use mathlib.Core.Bool.{Bool, true, false}
-use mathlib.Core.List.{List, [], _∷_, _++_}
-use Prim.Native.Nat.{ℕ, zero, suc, _+_, _-_, _*_, _/_, _%_, _≤_, _<_}
-use native.Mathlib.Nat.{zero-mul, add-mul, one-mul, mul-le-mul-right, add-zero, mul-comm}
+use mathlib.Core.Bool.{Bool}
+use mathlib.Core.List.{List}
+use Prim.Native.Nat.{ℕ, _+_, _-_, _*_, _≤_, _<_}
+use native.Mathlib.Nat.{zero-mul, add-mul, one-mul, add-zero}
 use native.Mathlib.Omega.{arith}
 use lib.ListN.{length, drop, length-take}
 use borrow.Rule.Slice.PartMut.{midOf}
 use Rattle.rows.specs.Bits.{bit, countBelow}
-use Rattle.rows.proofs.Counting.{count-add, count-ext}
+use Rattle.rows.proofs.Counting.{count-add, count-ext, count-up}
 use Rattle.blocks.specs.Layout.{place}
 use Rattle.blocks.proofs.Places.{row-within}
 use Rattle.blocks.proofs.RowParts.{span, row-read}
@@ -16,7 +16,6 @@ use Rattle.store.specs.Written.{rising}
 use Rattle.store.proofs.Rising.{length-rising}
 use Rattle.store.proofs.Written.{number-left, number-right}
 use Rattle.writing.specs.Records.{Recorded, RowFits, WritesRow, inRows, TableFits, WritesTable}
-use Rattle.writing.proofs.Counted.{count-up}
 
 -- The rows' bits as the numbers of axioms.
 in-rows : (rows : List ℕ) (n w c d : ℕ) → d < n → inRows rows n w (c * n + d) ≡ bit rows (place w c d)

@@ -1,9 +1,8 @@
 -- The catalogue whole: the records before the axioms copied, total and count put in, and the axioms of the store's rows.
-use mathlib.Core.Path.{_≡_, refl, sym, ap, ap₂, _∙_, subst}
-use mathlib.Core.Bool.{Bool, true, false}
-use mathlib.Core.List.{List, [], _∷_, _++_, append-nil}
-use Prim.Native.Nat.{ℕ, zero, suc, _+_, _-_, _*_, _/_, _%_, _≤_, _<_}
-use native.Mathlib.Nat.{mod-lt, div-lt-iff-lt-mul, mul-comm}
+use mathlib.Core.Path.{_≡_, sym, ap, ap₂, _∙_, subst}
+use mathlib.Core.List.{List, _++_, append-nil}
+use Prim.Native.Nat.{ℕ, _+_, _-_, _*_, _/_, _%_, _≤_, _<_}
+use native.Mathlib.Nat.{mod-lt, div-lt-iff-lt-mul}
 use native.Mathlib.Omega.{arith}
 use lib.ListN.{length, take, drop, set, length-set, length-append, length-drop}
 use lib.Seq.{set-append-left, take-at, take-all, length-take-le}
@@ -14,11 +13,12 @@ use Rattle.rows.specs.Bits.{bit, countBelow}
 use Rattle.rows.proofs.Counting.{count-ext}
 use Rattle.blocks.specs.Layout.{place}
 use Rattle.reader.specs.Copied.{copied}
-use Rattle.store.specs.Parts.{width, used, inForce, spareClear, Clear}
+use Rattle.store.specs.Parts.{width, inForce}
 use Rattle.store.specs.Written.{rising, sidesOf, numbered, axiomCount, axiomRecords, setWord, written}
 use Rattle.store.proofs.Sizes.{width-fits, table-long, used-split}
 use Rattle.store.proofs.StoreRows.{in-force-bit}
 use Rattle.store.proofs.Written.{number-left, number-right}
+use Rattle.store.proofs.Records.{length-setWord}
 use Rattle.writing.specs.Records.{Recorded, inRows, TableFits, WritesTable, CatalogueFits}
 
 -- Numbers put into the front of a list.
@@ -27,10 +27,6 @@ unfolding setWord
 setWord-front xs ys i x h =
     ap (λ (l : List ℕ). set l (i + 1) (x / 256)) (set-append-left xs ys i (x % 256) (omega arith))
     ∙ set-append-left (set xs i (x % 256)) ys (i + 1) (x / 256) (simp length-set h)
-
-length-setWord : (xs : List ℕ) (i x : ℕ) → length (setWord xs i x) ≡ length xs
-unfolding setWord
-length-setWord xs i x = simp length-set
 
 -- Total and count put into the front of a catalogue.
 abbrev pub counted : List ℕ → ℕ → List ℕ → List ℕ

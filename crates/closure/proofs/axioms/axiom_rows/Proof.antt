@@ -5,8 +5,7 @@ use mathlib.Core.Path.{_≡_, sym, ap, ap₂, subst, _∙_}
 use mathlib.Core.Bool.{_||_}
 use Rattle.catalogue.proofs.Bounds.{header-within, axiom-within}
 use Rattle.catalogue.specs.Header.{axioms}
-use Rattle.rows.specs.Bits.{setBit}
-use Rattle.rules.specs.Tests.{some}
+use Rattle.rows.specs.Bits.{setBit, someBelow}
 use Rattle.rules.specs.Axioms.{catalogueAxioms}
 use Rattle.blocks.specs.declared.Shape.{Shape}
 use Rattle.blocks.specs.Layout.{shapeOf, table}
@@ -81,7 +80,7 @@ returns c x y =
     let all : loop .k ≡ axioms (z .args .b .now) = omega (arith, c .before .before .axioms .ensures) in
     ap (λ (s : Shape). table s (loop .table) x y) (z .pre .0 .is)
     ∙ loop .inv .1 .marks-first x y
-    ∙ ap₂ (λ (s : Shape) (k : ℕ). table s (z .args .table .now) x y || some k (isAxiom (z .args .b .now) x y)) (sym (z .pre .0 .is)) all
+    ∙ ap₂ (λ (s : Shape) (k : ℕ). table s (z .args .table .now) x y || someBelow (isAxiom (z .args .b .now) x y) k) (sym (z .pre .0 .is)) all
 
 pub axiom-rows-spec : {M : Type 1} → statement M
 axiom-rows-spec =

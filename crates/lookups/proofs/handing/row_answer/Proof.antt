@@ -7,11 +7,11 @@ use Rattle.catalogue.specs.Verdicts.{outcomeOf}
 use Rattle.lookups.specs.declared.handing.Handed.the-variants.{Row}
 use Rattle.lookups.specs.Checks.{readChecks, Named}
 use Rattle.lookups.proofs.Acceptance.{read-named, named-one, read-twice}
-use Rattle.lookups.proofs.Offsets.{shape-width}
 use Rattle.lookups.proofs.Answered.{row-accepted, row-refused}
 use borrow.Author.Needs.{needs}
 use Rattle.lookups.proofs.handing.row_answer.Statement.{statement}
 use Rattle.lookups.proofs.handing.row_answer.Tie as tie
+use Rattle.store.proofs.Sizes.{shape-width}
 
 -- Where the questions accept.
 accepts : (c : tie.After-enum-told) → readChecks (now (c .before .before .before .before .before .args .b)) (c .before .before .before .before .before .args .c ∷ []) (now (c .before .before .before .before .before .args .store)) ≡ accepted

@@ -1,9 +1,10 @@
 -- `pair_offset` meets its contract.
 use native.Mathlib.Omega.{arith}
-use Rattle.lookups.proofs.Offsets.{offset-limit, shape-concepts, shape-offset}
+use Rattle.lookups.proofs.Offsets.{offset-limit, shape-offset}
 use borrow.Author.Needs.{needs}
 use Rattle.lookups.proofs.pairs.pair_offset.Statement.{statement}
 use Rattle.lookups.proofs.pairs.pair_offset.Tie as tie
+use Rattle.store.proofs.Sizes.{shape-concepts}
 
 of-requires : tie.Need-of-requires
 of-requires c κs = search needs
