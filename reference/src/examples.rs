@@ -17,6 +17,7 @@ pub const EXAMPLES: &[Example] = &[
     ("example1", example1),
     ("example4", example4),
     ("tops", tops),
+    ("wide", wide),
     ("shared-parts", || shared_parts(64)),
     ("shared-parts-512", || shared_parts(512)),
     ("chain", || chain(16)),
@@ -116,6 +117,24 @@ pub fn example4() -> Catalogue {
 pub fn tops() -> Catalogue {
     let concepts = vec![Atomic, Top, Top, Existential(0, 2), Atomic];
     plain(concepts, 1, vec![(0, 1), (3, 4)])
+}
+
+/// 512 atomics and no roles: a store of 65,536 bytes. The axioms hold between
+/// the first half and the last, within the last, and at its last two.
+pub fn wide() -> Catalogue {
+    let axioms = vec![
+        (0, 1),
+        (255, 256),
+        (256, 511),
+        (257, 300),
+        (300, 301),
+        (301, 257),
+        (400, 255),
+        (509, 510),
+        (510, 511),
+        (511, 0),
+    ];
+    plain(vec![Atomic; 512], 0, axioms)
 }
 
 /// Record i is the conjunction of record i - 1 with itself.

@@ -21,6 +21,7 @@ pub const PROGRAMS: &[(&str, Output)] = &[
     ("listing_long", listing::text),
     ("listing_many", listing::text),
     ("listing_refused", listing::text),
+    ("listing_wide", listing::text),
     ("rows_check", fixed::rows_check),
     ("catalogue_check", programs::catalogue_check),
     ("structure_check", fixed::structure_check),

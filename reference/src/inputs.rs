@@ -16,6 +16,7 @@ pub const PROGRAMS: &[(&str, Input)] = &[
     ("listing_long", |_| Ok(vec![255; 70_000])),
     ("listing_many", |data| catalogue(data, "bookings-2")),
     ("listing_refused", |data| catalogue(data, "w1-unsorted")),
+    ("listing_wide", |data| catalogue(data, "wide")),
     ("closure_check", closure_cases),
 ];
 

@@ -1,4 +1,5 @@
 // The write call: the catalogue with the axioms in force (document 01, Questions: write puts 1 to 10, 13, 14, 20).
+use catalogue::Axiom;
 use catalogue::Verdict;
 use catalogue::header::axioms_at;
 use reader::copy_numbers;
@@ -84,10 +85,10 @@ fn write_checked(b: &[u8], store: &[u8], output: &mut [u8]) -> Wrote
     if !store::spare_clear(b, store) {
         return Wrote::Refused(13, 0);
     }
-    if !store::axioms_in_limit(b, store) {
+    let count = store::axiom_count(b, store);
+    if Axiom::MAX < count {
         return Wrote::Refused(14, 0);
     }
-    let count = store::axiom_count(b, store);
     let end = axioms_at(b) + 4 * count;
     if output.len() < end {
         return Wrote::Refused(20, 0);
