@@ -5,19 +5,17 @@ ghost use lib.ListN.{length};
 ghost use Rattle.catalogue.specs.Outcome.{accepted};
 ghost use Rattle.catalogue.specs.Verdicts.{outcomeOf};
 ghost use Rattle.rules.specs.Occurrence.{occurs};
-ghost use Rattle.blocks.specs.Layout.{shapeOf, table};
-ghost use Rattle.occurrence.specs.Marking.{InTable};
-ghost use Rattle.store.specs.Parts.{Sized, Clear, inForce};
+ghost use Rattle.store.specs.Parts.{Sized, Clear, width, inForce};
 ghost use Rattle.lookups.specs.Checks.{every, openChecks, contentChecks, readChecks, listChecks};
 use blocks::Shape;
 use catalogue::Verdict;
 
-// Do both concepts occur by a table of axioms? Their marks are computed in a row, whatever it held.
-fn both_marked(b: &[u8], axioms: &[u8], row: &mut [u8], c: usize, d: usize) -> bool
-    requires { ⌜ InTable (now b) (now axioms) (now row) ⌝ }
-    ensures { λ r. ⌜ r ≡ every (occurs (now (b .entry)) (table (shapeOf (now (b .entry))) (now (axioms .entry)))) (c ∷ d ∷ []) ⌝ }
+// Do both concepts occur by the axioms in force? The marks are computed in a row, whatever it held.
+fn both_marked(b: &[u8], store: &[u8], row: &mut [u8], c: usize, d: usize) -> bool
+    requires { ⌜ Clear (now b) (now store) × (length (now row) ≡ width (now b)) ⌝ }
+    ensures { λ r. ⌜ r ≡ every (occurs (now (b .entry)) (inForce (now (b .entry)) (now (store .entry)))) (c ∷ d ∷ []) ⌝ }
 {
-    occurrence::occurs(b, axioms, row);
+    store::mark_occurring(b, store, row);
     rows::has(row, c) & rows::has(row, d)
 }
 
@@ -27,11 +25,9 @@ fn both_occur(b: &[u8], c: usize, d: usize, store: &[u8]) -> bool
     ensures { λ r. ⌜ r ≡ every (occurs (now (b .entry)) (inForce (now (b .entry)) (now (store .entry)))) (c ∷ d ∷ []) ⌝ }
 {
     let s = Shape::of(b);
-    let n = s.concepts;
     let w = s.width;
-    let end = n * w;
     let mut marks = [0u8; 64];
-    both_marked(b, &store[..end], &mut marks[..w], c, d)
+    both_marked(b, store, &mut marks[..w], c, d)
 }
 
 // Questions 1 to 10.

@@ -6,8 +6,8 @@ use borrow.Author.Needs.{needs}
 use Rattle.lookups.proofs.checks.both_marked.Statement.{statement}
 use Rattle.lookups.proofs.checks.both_marked.Tie as tie
 
-occurs-requires : tie.Need-occurs-requires
-occurs-requires c κs = search needs
+mark-occurring-requires : tie.Need-mark-occurring-requires
+mark-occurring-requires c κs = search needs
 
 has-requires : tie.Need-has-requires
 has-requires c κs = search needs
@@ -21,10 +21,10 @@ same-length c = search needs
 returns : tie.Need-returns
 returns c =
     let s = c .before .before .before .before .before .before .before .before .before .before .before in
-    let marked = c .before .before .before .before .before .before .occurs .ensures in
+    let marked = c .before .before .before .before .before .before .mark-occurring .ensures in
     ap₂ _&&_ (c .before .before .has .ensures ∙ marked (s .args .c)) (c .has2 .ensures ∙ marked (s .args .d))
     ∙ sym (every-two _ (s .args .c) (s .args .d))
 
 pub both-marked-spec : {M : Type 1} → statement M
 both-marked-spec =
-    tie.close (tie.spec occurs-requires has-requires has-requires-2 same-length returns)
+    tie.close (tie.spec mark-occurring-requires has-requires has-requires-2 same-length returns)
