@@ -1,7 +1,7 @@
 -- What an accepted classify gives the calls after it: an accepted catalogue, and a store that is fresh for its axioms.
 use Prim.Native.Nat.{ℕ, _≤_}
 use native.Mathlib.Omega.{arith}
-use mathlib.Core.Path.{_≡_, fun-ext, _∙_}
+use mathlib.Core.Path.{_≡_, _∙_}
 use mathlib.Core.List.{List}
 use Rattle.catalogue.specs.Outcome.{accepted}
 use Rattle.catalogue.specs.Checks.{checked}
@@ -14,6 +14,7 @@ use Rattle.store.specs.Parts.{inForce}
 use Rattle.store.specs.Fresh.{Fresh}
 use Rattle.store.specs.Written.{axiomCount}
 use Rattle.store.proofs.AxiomCounts.{catalogue-count}
+use Rattle.lookups.proofs.DemandLookup.{same-axioms}
 use Rattle.closure.specs.Classified.{classifyChecks}
 use Rattle.closure.proofs.Checks.{accepted-fits}
 use Rattle.demands.specs.Demands.{AfterClassify}
@@ -45,4 +46,4 @@ after-classify P f b store work answer store' work' call ok =
 
 -- The axioms in force in the store are the catalogue's.
 pub in-force-own : (b store : List ℕ) → ClassifiedStore b store → inForce b store ≡ catalogueAxioms b
-in-force-own b store u = fun-ext (λ c. fun-ext (λ d. u .fresh .axioms c d))
+in-force-own b store u = same-axioms b (catalogueAxioms b) store (u .catalogue) (u .range) (u .few) (u .fresh)

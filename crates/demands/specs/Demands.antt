@@ -1,33 +1,29 @@
 -- What several calls give together, said of their contracts: lookup, listing, row and write after an accepted classify, and classify of what write gave.
 -- Every call gets the catalogue that classify got (document 01, Edits in a row), and what they answer is said by that catalogue's axioms.
-use Prim.Native.Nat.{ℕ, suc, _*_, _≤_, _<_}
+use Prim.Native.Nat.{ℕ, _≤_, _<_}
 use mathlib.Core.Path.{_≡_}
-use mathlib.Core.Bool.{Bool, true, false}
-use mathlib.Core.Logic.{_↔_, _⊎_}
-use mathlib.Core.List.{List, [], _++_}
-use lib.ListN.{length, getD, take, drop}
+use mathlib.Core.Bool.{Bool}
+use mathlib.Core.Logic.{_⊎_}
+use mathlib.Core.List.{List, _++_}
+use lib.ListN.{length, take, drop}
 use denote.Ref.{RefT, now}
 use Rattle.catalogue.specs.Header.{concepts}
-use Rattle.catalogue.specs.Words.{word}
 use Rattle.catalogue.specs.Outcome.{accepted}
 use Rattle.catalogue.specs.Checks.{checked}
-use Rattle.rows.specs.Bits.{bit}
 use Rattle.rules.specs.Axioms.{InRange, catalogueAxioms}
 use Rattle.rules.specs.Occurrence.{Occurs}
 use Rattle.rules.specs.Models.{Entails, Refuted}
-use Rattle.store.specs.Parts.{width, pairRowAt, used, workUsed, inForce}
+use Rattle.store.specs.Parts.{used, workUsed, inForce}
 use Rattle.store.specs.Fresh.{Fresh}
 use Rattle.store.specs.Written.{axiomCount, written, SameRecords}
 use Rattle.lookups.specs.Answers.{lookedUp}
-use Rattle.lookups.specs.Listings.{kindsUnder, withFront, Lists}
+use Rattle.lookups.specs.Listings.{kindsUnder, Lists}
 use Rattle.lookups.specs.Rows.{rowAnswer, HandsOut}
-use Rattle.lookups.specs.Meaning.{LookupMeans, KindUnder, ListingMeans}
+use Rattle.lookups.specs.Meaning.{LookupMeans, ListingFinds, RowMeans}
 use Rattle.lookups.specs.declared.pairs.Looked.{Looked}
 use Rattle.lookups.specs.declared.pairs.Looked.the-variants.{Yes, No}
 use Rattle.lookups.specs.declared.kinds.Listed.{Listed}
-use Rattle.lookups.specs.declared.kinds.Listed.the-variants as lists
 use Rattle.lookups.specs.declared.handing.Handed.{Handed}
-use Rattle.lookups.specs.declared.handing.Handed.the-variants as hands
 use Rattle.writing.specs.Write.{Writes}
 use Rattle.writing.specs.declared.Wrote.{Wrote}
 use Rattle.writing.specs.declared.Wrote.the-variants as writes
@@ -57,15 +53,7 @@ ClassifyThenAnswered =
 
 -- ---- listing
 
--- A listing under D by the axioms F, with its list before and after, where the names are listed: they rise. Accepted, they stand in front, two bytes
--- each, and what is past them stays: the entries are exactly the atomic kinds that occur and lie under D. Refused, the list keeps its bytes.
-pub record ListingFinds (b : List ℕ) (F : ℕ → ℕ → Bool) (d : ℕ) (names list : List ℕ) (r : Listed) (after : List ℕ) : Type 0 where
-  pub means : ListingMeans b F d (length list) r names
-  pub rises : (i : ℕ) → suc i < length names → getD names i 0 < getD names (suc i) 0
-  pub front : (k : ℕ) → r ≡ lists.Count k → (k ≡ length names) × (after ≡ withFront names list)
-  pub entries : (k : ℕ) → r ≡ lists.Count k → (c : ℕ) → ((i : ℕ) × (i < k) × (word after (2 * i) ≡ c)) ↔ KindUnder b F d c
-  pub keeps : (number at : ℕ) → r ≡ lists.Refused number at → after ≡ list
-
+-- A listing from that store means what demands 1 and 2 say, and its names stand in front of the list, rising.
 abbrev pub ClassifyThenListing : Type 0
 ClassifyThenListing =
     AfterClassify
@@ -75,17 +63,7 @@ ClassifyThenListing =
 
 -- ---- row
 
--- The row of C by the axioms F: handed out exactly if C occurs. Its bit D is set exactly where C lies within D in every finite interpretation, and
--- clear exactly where one refutes it, for D that occurs; for any other D it is clear. 19 exactly if C is a concept and does not occur, 15 exactly
--- if it is none; the part is then empty.
-pub record RowMeans (b : List ℕ) (F : ℕ → ℕ → Bool) (c : ℕ) (answer : Handed) (part : List ℕ) : Type 0 where
-  pub hands-out : (answer ≡ hands.Row (pairRowAt b c) (width b)) ↔ Occurs b F c
-  pub bits : Occurs b F c → (d : ℕ) → Occurs b F d → ((bit part d ≡ true) ↔ Entails b F c d) × ((bit part d ≡ false) ↔ Refuted b F c d)
-  pub others : (d : ℕ) → ¬ (Occurs b F d) → bit part d ≡ false
-  pub absent : (answer ≡ hands.Refused 19 0) ↔ ((c < concepts b) × ¬ (Occurs b F c))
-  pub outside : (answer ≡ hands.Refused 15 0) ↔ ¬ (c < concepts b)
-  pub empty : ¬ (Occurs b F c) → part ≡ []
-
+-- A row of that store means what demands 1 and 2 say.
 abbrev pub ClassifyThenRow : Type 0
 ClassifyThenRow =
     AfterClassify

@@ -66,7 +66,7 @@ module _ (b : List ℕ) (F : Axioms) (store : List ℕ) (catalogue : checked b �
   wf : WellFormed b
   wf = accepted-well-formed catalogue
 
-  same-axioms : inForce b store ≡ F
+  pub same-axioms : inForce b store ≡ F
   same-axioms = fun-ext (λ c. fun-ext (λ d. fresh .axioms c d))
 
   store-passes : storeFits b (length store) ≡ true

@@ -6,4 +6,6 @@ pub mod Unique
 pub mod Partitions
 pub mod DemandLookup
 pub mod DemandListing
+pub mod DemandEntries
+pub mod DemandRow
 pub mod Refusals

@@ -1,0 +1,97 @@
+-- The entries of a listing: from a store classified afresh its names rise and stand in front of the list, two bytes each.
+use Prim.Native.Nat.{ℕ, zero, suc, _+_, _*_, _%_, _/_, _≤_, _<_}
+use native.Mathlib.Nat.{not-suc-le-zero, le-of-suc-le-suc}
+use native.Mathlib.Omega.{arith}
+use mathlib.Core.Path.{_≡_, refl, sym, ap, ap₂, subst, _∙_}
+use mathlib.Core.List.{List, [], _∷_, _++_}
+use lib.ListN.{length, getD, drop}
+use Rattle.catalogue.specs.Header.{concepts}
+use Rattle.catalogue.specs.Words.{word, bytesOf}
+use Rattle.catalogue.specs.Outcome.{Outcome, accepted, refused}
+use Rattle.catalogue.specs.Checks.{checked}
+use Rattle.catalogue.proofs.Accepted.{accepted-well-formed}
+use Rattle.rules.specs.Axioms.{Axioms, InRange}
+use Rattle.rules.specs.Occurrence.{Occurs, occurs}
+use Rattle.rules.proofs.Occurrence.{occurs-exact}
+use Rattle.store.specs.Parts.{inForce}
+use Rattle.store.specs.Fresh.{Fresh}
+use Rattle.store.specs.Written.{axiomCount}
+use Rattle.store.proofs.Rising.{rising-lists}
+use Rattle.lookups.specs.Checks.{listChecks}
+use Rattle.lookups.specs.Listings.{atomicUnder, kindsUnder, withFront, listed, listAfter, Lists}
+use Rattle.lookups.specs.Meaning.{ListingFinds}
+use Rattle.lookups.specs.declared.kinds.Listed.{Listed}
+use Rattle.lookups.specs.declared.kinds.Listed.the-variants.{Count, Refused}
+use Rattle.lookups.proofs.Acceptance.{every-one, list-named}
+use Rattle.lookups.proofs.DemandLookup.{same-axioms}
+use Rattle.lookups.proofs.DemandListing.{listing-means, listed-exact}
+use Rattle.lookups.proofs.Unique.{refused-keeps}
+
+-- ---- the entries of a list
+
+word-later : (a0 a1 : ℕ) (xs : List ℕ) (i j : ℕ) → i ≡ suc (suc j) → word (a0 ∷ a1 ∷ xs) i ≡ word xs j
+unfolding word
+word-later a0 a1 xs i j e =
+    let s : i + 1 ≡ suc (suc (j + 1)) = omega arith in
+    ap₂ (λ (l h : ℕ). getD (a0 ∷ a1 ∷ xs) l 0 + 256 * getD (a0 ∷ a1 ∷ xs) h 0) e s
+
+-- Number i of those that stand in front.
+front-entry : (names rest : List ℕ) (i : ℕ) → i < length names → word (bytesOf names ++ rest) (2 * i) ≡ getD names i 0
+unfolding word bytesOf
+front-entry [] rest i l = absurd (not-suc-le-zero l)
+front-entry (n ∷ names) rest zero l = omega arith
+front-entry (n ∷ names) rest (suc i) l =
+    word-later (n % 256) (n / 256) (bytesOf names ++ rest) (2 * suc i) (2 * i) (omega arith) ∙ front-entry names rest i (le-of-suc-le-suc l)
+
+-- ---- a listing from a fresh store
+
+module _ (b : List ℕ) (F : Axioms) (store : List ℕ) (catalogue : checked b ≡ accepted) (range : InRange b F) (few : axiomCount b F ≤ 4096) (fresh : Fresh b F store)
+    (d : ℕ) (list : List ℕ) (r : Listed) (after : List ℕ)
+    (f : Lists b d store list r after)
+  where
+    names : List ℕ
+    names = kindsUnder b d store
+
+    -- Counted, it was accepted.
+    counted-accepted : (k : ℕ) → r ≡ Count k → (listChecks b (d ∷ []) store (length list) ≡ accepted) × (k ≡ length names)
+    unfolding names
+    counted-accepted k e = go (listChecks b (d ∷ []) store (length list)) refl (sym e ∙ f .answer)
+      where
+        go : (o : Outcome) → listChecks b (d ∷ []) store (length list) ≡ o → Count k ≡ listed (listChecks b (d ∷ []) store (length list)) (kindsUnder b d store)
+            → (listChecks b (d ∷ []) store (length list) ≡ accepted) × (k ≡ length (kindsUnder b d store))
+        go accepted q a = (q, let z : Count k ≡ Count (length (kindsUnder b d store)) = a ∙ ap (λ (o : Outcome). listed o (kindsUnder b d store)) q in cc)
+        go (refused number at) q a =
+            let z : Count k ≡ Refused number at = a ∙ ap (λ (o : Outcome). listed o (kindsUnder b d store)) q in
+            let y : _≡_ {A = ℕ} 0 1 = cc in
+            absurd (let n : ⊥ = omega arith in n)
+
+    after-is : (k : ℕ) → r ≡ Count k → after ≡ withFront names list
+    unfolding names
+    after-is k e = f .entries ∙ ap (λ (o : Outcome). listAfter o (kindsUnder b d store) list) (counted-accepted k e .0)
+
+    named-occurs : (k : ℕ) → r ≡ Count k → Occurs b F d
+    named-occurs k e =
+        let m = list-named b (d ∷ []) store (length list) (counted-accepted k e .0) .0 in
+        let own : occurs b F d ≡ occurs b (inForce b store) d = ap (λ (G : Axioms). occurs b G d) (sym (same-axioms b F store catalogue range few fresh)) in
+        occurs-exact b F (accepted-well-formed catalogue) range d .0 (own ∙ sym (every-one (occurs b (inForce b store)) d) ∙ m .occur)
+
+    entry-is : (k : ℕ) → r ≡ Count k → (i : ℕ) → i < length names → word after (2 * i) ≡ getD names i 0
+    unfolding withFront
+    entry-is k e i l = ap (λ (xs : List ℕ). word xs (2 * i)) (after-is k e) ∙ front-entry names (drop (2 * length names) list) i l
+
+    -- What a listing from a fresh store finds, and how it stands in the list.
+    pub listing-finds : ListingFinds b F d (kindsUnder b d store) list r after
+    unfolding names kindsUnder
+    listing-finds =
+        record {
+          means = listing-means b F store catalogue range few fresh d list r after f;
+          rises = rising-lists (atomicUnder b store d) (concepts b) .rises;
+          front = λ k e. (counted-accepted k e .1, after-is k e);
+          entries = λ k e c.
+              let exact = listed-exact b F store catalogue range few fresh d (named-occurs k e) c in
+              let long = counted-accepted k e .1 in (
+                λ (i, l, h). exact .0 (i, subst (λ (n : ℕ). i < n) long l, sym (entry-is k e i (subst (λ (n : ℕ). i < n) long l)) ∙ h),
+                λ n. let (i, l, h) = exact .1 n in (i, subst (λ (n : ℕ). i < n) (sym long) l, entry-is k e i l ∙ h),
+              );
+          keeps = λ number at e. refused-keeps b d store list r after number at f e;
+        }
