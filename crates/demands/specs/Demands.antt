@@ -53,7 +53,7 @@ ClassifyThenAnswered =
 
 -- ---- listing
 
--- A listing from it finds what they say, and its entries stand in front, rising.
+-- A listing from that store means what demands 1 and 2 say, and its names stand in front of the list, rising.
 abbrev pub ClassifyThenListing : Type 0
 ClassifyThenListing =
     AfterClassify
@@ -63,7 +63,7 @@ ClassifyThenListing =
 
 -- ---- row
 
--- A row of it says what they say.
+-- A row of that store means what demands 1 and 2 say.
 abbrev pub ClassifyThenRow : Type 0
 ClassifyThenRow =
     AfterClassify

@@ -12,10 +12,13 @@ use Rattle.store.specs.Parts.{width, pairRowAt, held}
 use Rattle.lookups.specs.Checks.{readChecks, listChecks}
 use Rattle.lookups.specs.Answers.{looked, lookedUp}
 use Rattle.lookups.specs.Listings.{kindsUnder, listed, listAfter, Lists, Filled}
-use Rattle.lookups.specs.Rows.{handed, rowAnswer, HandsOut}
+use Rattle.lookups.specs.Rows.{handed, rowAnswer, Within, Names, HandsOut}
+use Rattle.lookups.specs.declared.handing.Handed.{Handed}
 use Rattle.lookups.specs.declared.pairs.Looked.the-variants as looks
 use Rattle.lookups.specs.declared.kinds.Listed.the-variants as lists
 use Rattle.lookups.specs.declared.handing.Handed.the-variants as hands
+use Rattle.lookups.proofs.Acceptance.{read-named, named-one}
+use Rattle.lookups.proofs.Offsets.{row-in-store}
 
 -- ---- lookup
 
@@ -41,17 +44,9 @@ handed-row : (o : Outcome) (p w offset size : ℕ) → hands.Row offset size ≡
 handed-row accepted p w offset size e = (refl, cc, cc)
 handed-row (refused number at) p w offset size e = let z : _≡_ {A = ℕ} 0 1 = cc in absurd (let n : ⊥ = omega arith in n)
 
-handed-refused : (o : Outcome) (p w number at : ℕ) → hands.Refused number at ≡ handed o p w → o ≡ refused number at
-handed-refused accepted p w number at e = let z : _≡_ {A = ℕ} 0 1 = cc in absurd (let n : ⊥ = omega arith in n)
-handed-refused (refused number' at') p w number at e = cc
-
 pub row-answered : (b : List ℕ) (c : ℕ) (store : List ℕ) (offset size : ℕ) → hands.Row offset size ≡ rowAnswer b c store → (readChecks b (c ∷ []) store ≡ accepted) × (offset ≡ pairRowAt b c) × (size ≡ width b)
 unfolding rowAnswer
 row-answered b c store offset size e = handed-row (readChecks b (c ∷ []) store) (pairRowAt b c) (width b) offset size e
-
-pub refused-answered : (b : List ℕ) (c : ℕ) (store : List ℕ) (number at : ℕ) → hands.Refused number at ≡ rowAnswer b c store → readChecks b (c ∷ []) store ≡ refused number at
-unfolding rowAnswer
-refused-answered b c store number at e = handed-refused (readChecks b (c ∷ []) store) (pairRowAt b c) (width b) number at e
 
 -- ---- listing
 
@@ -71,25 +66,37 @@ lists-refused b d store list number at e =
 
 -- ---- the part handed out
 
-never : {number at : ℕ} {o : Outcome} → o ≡ accepted → o ≡ refused number at → ⊥
-never e f = let z : _≡_ {A = ℕ} 0 1 = cc in omega arith
-
--- A row's answer, and the part of the store that it names.
-pub hands-part : (b : List ℕ) (c : ℕ) (store part : RefT (List ℕ)) (offset size : ℕ) → hands.Row offset size ≡ rowAnswer b c (now store) → ptr part ≡ (ptr store .0, offset + ptr store .1) → now part ≡ take ((offset + size) - offset) (drop offset (now store)) → HandsOut b c store part
-hands-part b c store part offset size answer place bytes =
-    let (e, o, w) = row-answered b c (now store) offset size answer in
+-- What stands in the store where the answer says, and the empty part of a refusal.
+pub names-part : (store part : RefT (List ℕ)) (answer : Handed) (offset size : ℕ) → answer ≡ hands.Row offset size → ptr part ≡ (ptr store .0, offset + ptr store .1) → now part ≡ take ((offset + size) - offset) (drop offset (now store)) → Names store answer part
+names-part store part answer offset size is place bytes =
     record {
-      accepts = λ _.
+      accepts = λ o w e.
+          let p : o ≡ offset = cc in
+          let z : w ≡ size = cc in
           record {
-            place = place ∙ ap (λ (k : ℕ). (ptr store .0, k)) (let z : offset + ptr store .1 ≡ ptr store .1 + pairRowAt b c = omega (arith, o) in z);
-            bytes = bytes ∙ ap₂ (λ (s k : ℕ). take s (drop k (now store))) (let z : (offset + size) - offset ≡ width b = omega (arith, w) in z) o;
+            place = place ∙ ap (λ (k : ℕ). (ptr store .0, k)) (let y : offset + ptr store .1 ≡ ptr store .1 + o = omega (arith, p) in y);
+            bytes = bytes ∙ ap₂ (λ (s k : ℕ). take s (drop k (now store))) (let y : (offset + size) - offset ≡ w = omega (arith, z) in y) (sym p);
           };
-      refuses = λ number at f. absurd (never e f);
+      refuses = λ number at e. let z : _≡_ {A = ℕ} 0 1 = cc in absurd (let n : ⊥ = omega arith in n);
     }
 
-pub hands-empty : (b : List ℕ) (c : ℕ) (store part : RefT (List ℕ)) (number at : ℕ) → hands.Refused number at ≡ rowAnswer b c (now store) → now part ≡ [] → HandsOut b c store part
-hands-empty b c store part number at answer empty =
+pub names-empty : (store part : RefT (List ℕ)) (answer : Handed) (number at : ℕ) → answer ≡ hands.Refused number at → now part ≡ [] → Names store answer part
+names-empty store part answer number at is empty =
     record {
-      accepts = λ e. absurd (never e (refused-answered b c (now store) number at answer));
+      accepts = λ o w e. let z : _≡_ {A = ℕ} 0 1 = cc in absurd (let n : ⊥ = omega arith in n);
       refuses = λ _ _ _. empty;
+    }
+
+-- The row that the answer names lies in the store, and the part that it names is the one handed out.
+pub answer-within : (b : List ℕ) (c : ℕ) (store : List ℕ) (answer : Handed) → answer ≡ rowAnswer b c store → Within store answer
+answer-within b c store answer a offset size is =
+    let (e, o, w) = row-answered b c store offset size (sym is ∙ a) in
+    let m = read-named _ _ _ e in
+    omega (arith, o, w, row-in-store _ _ _ (m .clear .sized) (named-one _ _ _ m))
+
+pub names-handed : (b : List ℕ) (c : ℕ) (store part : RefT (List ℕ)) (answer : Handed) → answer ≡ rowAnswer b c (now store) → Names store answer part → HandsOut b c store part
+names-handed b c store part answer a n =
+    record {
+      accepts = λ e. n .accepts (pairRowAt b c) (width b) (a ∙ row-accepted b c (now store) e);
+      refuses = λ number at e. n .refuses number at (a ∙ row-refused b c (now store) e);
     }

@@ -1,8 +1,8 @@
 -- A concept's row: the answer, and the part of the caller's own store that is handed out (document 01, Store; Which shape goes where).
-use Prim.Native.Nat.{ℕ, _+_}
+use Prim.Native.Nat.{ℕ, _+_, _≤_}
 use mathlib.Core.Path.{_≡_}
 use mathlib.Core.List.{List, [], _∷_}
-use lib.ListN.{take, drop}
+use lib.ListN.{length, take, drop}
 use denote.Ref.{RefT, ptr, now}
 use Rattle.catalogue.specs.Outcome.{Outcome, accepted, refused}
 use Rattle.store.specs.Parts.{width, pairRowAt}
@@ -24,6 +24,15 @@ rowAnswer b c store = handed (readChecks b (c ∷ []) store) (pairRowAt b c) (wi
 pub record PartOf (whole : RefT (List ℕ)) (offset size : ℕ) (part : RefT (List ℕ)) : Type 0 where
   pub place : ptr part ≡ (ptr whole .0, ptr whole .1 + offset)
   pub bytes : now part ≡ take size (drop offset (now whole))
+
+-- The row that an answer names lies in the store.
+abbrev pub Within : List ℕ → Handed → Type 0
+Within store answer = (offset size : ℕ) → answer ≡ Row offset size → offset + size ≤ length store
+
+-- The part that an answer names: the row where it stands in the store; refused, the empty part.
+pub record Names (store : RefT (List ℕ)) (answer : Handed) (part : RefT (List ℕ)) : Type 0 where
+  pub accepts : (offset size : ℕ) → answer ≡ Row offset size → PartOf store offset size part
+  pub refuses : (number at : ℕ) → answer ≡ Refused number at → now part ≡ []
 
 -- The part handed out: accepted, the concept's pair row where it stands in the caller's store; refused, the empty part. Where an empty part
 -- points is free.

@@ -1,6 +1,6 @@
 // A concept's row, handed out as a part of the caller's store.
 ghost use mathlib.Core.Path.{_≡_};
-ghost use Rattle.lookups.specs.Rows.{rowAnswer, HandsOut};
+ghost use Rattle.lookups.specs.Rows.{rowAnswer, Within, Names, HandsOut};
 use super::checks::check_reading;
 use super::pairs::pair_offset;
 use blocks::Shape;
@@ -27,11 +27,11 @@ pub fn row_answer(b: &[u8], c: usize, store: &[u8]) -> Handed
     }
 }
 
-// The row of concept c, as that part of the store; refused, the empty part.
-pub fn row<'a>(b: &[u8], c: usize, store: &'a [u8]) -> &'a [u8]
-    ensures { λ r. ⌜ HandsOut (now (b .entry)) c (store .entry) r ⌝ }
+// The part of the store that an answer names; refused, the empty part.
+fn part_of<'a>(store: &'a [u8], answer: Handed) -> &'a [u8]
+    requires { ⌜ Within (now store) answer ⌝ }
+    ensures { λ r. ⌜ Names (store .entry) answer r ⌝ }
 {
-    let answer = row_answer(b, c, store);
     match answer {
         Handed::Row(offset, width) => {
             let end = offset + width;
@@ -39,6 +39,14 @@ pub fn row<'a>(b: &[u8], c: usize, store: &'a [u8]) -> &'a [u8]
         }
         Handed::Refused(_, _) => &store[0..0],
     }
+}
+
+// The row of concept c, as that part of the store; refused, the empty part.
+pub fn row<'a>(b: &[u8], c: usize, store: &'a [u8]) -> &'a [u8]
+    ensures { λ r. ⌜ HandsOut (now (b .entry)) c (store .entry) r ⌝ }
+{
+    let answer = row_answer(b, c, store);
+    part_of(store, answer)
 }
 
 // A row asked for: the part, and the answer beside it.
@@ -51,7 +59,7 @@ pub struct RowAnswer<'a> {
 pub fn row_and_answer<'a, 'b>(b: &'b [u8], c: usize, store: &'a [u8]) -> RowAnswer<'a>
     ensures { λ r. ⌜ HandsOut (now (b .entry)) c (store .entry) (r .part) × (r .answer ≡ rowAnswer (now (b .entry)) c (now (store .entry))) ⌝ }
 {
-    let part = row(b, c, store);
     let answer = row_answer(b, c, store);
+    let part = part_of(store, answer);
     RowAnswer { part, answer }
 }
