@@ -1,8 +1,11 @@
 //! The worked examples W1 to W10 of document 01, and those beside them.
 
 use reference::calls::{self, Changed, Counts};
-use reference::catalogue::{Catalogue, Concept, Refusal};
+use reference::catalogue::{Axiom, Catalogue, Concept, Refusal};
 use reference::{examples, listing};
+
+/// A call that adds or withdraws an axiom.
+type Edit = fn(&[u8], Axiom, &mut [u8], &mut [u8], &mut [u8]) -> Result<Changed, Refusal>;
 
 /// A catalogue, and buffers for calls on it.
 struct Buffers {
@@ -34,24 +37,17 @@ impl Buffers {
         calls::lookup(&self.catalogue, c, d, &self.store)
     }
 
+    fn edit(&mut self, call: Edit, axiom: Axiom) -> Result<Changed, Refusal> {
+        let (store, work, list) = (&mut self.store, &mut self.work, &mut self.list);
+        call(&self.catalogue, axiom, store, work, list)
+    }
+
     fn add(&mut self, left: usize, right: usize) -> Result<Changed, Refusal> {
-        let Buffers {
-            catalogue,
-            store,
-            work,
-            list,
-        } = self;
-        calls::add(catalogue, (left, right), store, work, list)
+        self.edit(calls::add, (left, right))
     }
 
     fn withdraw(&mut self, left: usize, right: usize) -> Result<Changed, Refusal> {
-        let Buffers {
-            catalogue,
-            store,
-            work,
-            list,
-        } = self;
-        calls::withdraw(catalogue, (left, right), store, work, list)
+        self.edit(calls::withdraw, (left, right))
     }
 
     /// Bits set in the store from this byte up to that one.

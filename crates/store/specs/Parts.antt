@@ -23,13 +23,6 @@ used b = concepts b * width b * (roles b + 2)
 unfoldable pub workUsed : List ℕ → ℕ
 workUsed b = concepts b * width b * (roles b + 1)
 
--- The bytes past the used parts, which every call leaves as they are.
-unfoldable pub past : List ℕ → List ℕ → List ℕ
-past b store = drop (used b) store
-
-unfoldable pub workPast : List ℕ → List ℕ → List ℕ
-workPast b work = drop (workUsed b) work
-
 -- The offsets of rows in a store: of the axioms with left side c, of the pairs of c, of the links of c by role r.
 unfoldable pub axiomRowAt : List ℕ → ℕ → ℕ
 axiomRowAt b c = c * width b
