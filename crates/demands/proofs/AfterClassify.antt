@@ -10,13 +10,13 @@ use Rattle.catalogue.proofs.Outcomes.{followed-both}
 use Rattle.catalogue.proofs.Passed.{checks-followed}
 use Rattle.rules.specs.Axioms.{InRange, catalogueAxioms}
 use Rattle.rules.proofs.Axioms.{catalogue-in-range}
-use Rattle.store.specs.Parts.{inForce}
+use Rattle.layout.specs.Parts.{inForce}
 use Rattle.store.specs.Fresh.{Fresh}
 use Rattle.store.specs.Written.{axiomCount}
 use Rattle.store.proofs.AxiomCounts.{catalogue-count}
 use Rattle.lookups.proofs.DemandLookup.{same-axioms}
-use Rattle.closure.specs.Classified.{classifyChecks}
-use Rattle.closure.proofs.Checks.{accepted-fits}
+use Rattle.classification.specs.Classified.{classifyChecks}
+use Rattle.classification.proofs.Checks.{accepted-fits}
 use Rattle.demands.specs.Demands.{AfterClassify}
 
 -- The catalogue and the store that an accepted classify leaves.

@@ -14,20 +14,20 @@ use Rattle.catalogue.proofs.Outcomes.{ask-accepted, followed-both}
 use Rattle.catalogue.proofs.Passed.{checks-followed}
 use Rattle.catalogue.proofs.Accepted.{accepted-well-formed}
 use Rattle.rules.specs.Axioms.{Axioms, catalogueAxioms}
-use Rattle.store.specs.Parts.{width, used, workUsed, inForce, spareClear}
+use Rattle.layout.specs.Parts.{width, used, workUsed, inForce, spareClear}
 use Rattle.store.specs.Fresh.{Fresh}
 use Rattle.store.specs.Checks.{storeFits, workFits, axiomsInLimit, askStore, askSpare, askLimit}
 use Rattle.store.specs.Written.{axiomCount, written, SameRecords}
 use Rattle.store.proofs.Checks.{axioms-few}
 use Rattle.store.proofs.Fresh.{fresh-unique}
 use Rattle.store.proofs.SameRules.{used-same, fresh-written}
-use Rattle.store.proofs.StoreRows.{in-force-range}
+use Rattle.layout.proofs.StoreRows.{in-force-range}
 use Rattle.store.proofs.Written.{written-same, written-accepted, written-axioms}
 use Rattle.writing.specs.Write.{storeChecks, writeChecks, ByOutcome, wrote, stays}
 use Rattle.writing.specs.declared.Wrote.{Wrote}
 use Rattle.writing.specs.declared.Wrote.the-variants.{Length}
-use Rattle.closure.specs.Classified.{classifyChecks}
-use Rattle.closure.proofs.Checks.{all-accepted}
+use Rattle.classification.specs.Classified.{classifyChecks}
+use Rattle.classification.proofs.Checks.{all-accepted}
 use Rattle.demands.specs.Demands.{ClassifiesAfresh, FreshByClassify, WriteThenClassify, ClassifyWriteClassify}
 use Rattle.demands.proofs.AfterClassify.{after-classify, in-force-own}
 

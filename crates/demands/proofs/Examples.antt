@@ -10,7 +10,7 @@ use Rattle.catalogue.specs.Examples.{w1}
 use Rattle.catalogue.proofs.Outcomes.{never-both}
 use Rattle.rules.specs.Axioms.{catalogueAxioms}
 use Rattle.rules.specs.Models.{Entails, Refuted}
-use Rattle.store.specs.Parts.{width, used, workUsed}
+use Rattle.layout.specs.Parts.{width, used, workUsed}
 use Rattle.store.specs.Checks.{storeFits, workFits}
 use Rattle.store.specs.Work.{zeroed}
 use Rattle.lookups.specs.Answers.{lookedUp}
@@ -19,9 +19,9 @@ use Rattle.lookups.specs.declared.pairs.Looked.{Looked}
 use Rattle.lookups.specs.declared.pairs.Looked.the-variants.{Yes, No}
 use Rattle.writing.specs.Write.{Writes}
 use Rattle.writing.specs.declared.Wrote.the-variants.{Length}
-use Rattle.closure.specs.declared.Classified.the-variants.{Done}
-use Rattle.closure.specs.Classified.{classifyChecks, Classifies}
-use Rattle.closure.proofs.Checks.{all-accepted}
+use Rattle.classification.specs.declared.Classified.the-variants.{Done}
+use Rattle.classification.specs.Classified.{classifyChecks, Classifies}
+use Rattle.classification.proofs.Checks.{all-accepted}
 use Rattle.worked.specs.Stores.{w1Store}
 use Rattle.worked.proofs.Reading.{w1-writes}
 use Rattle.worked.proofs.Worked.{worked}

@@ -9,7 +9,7 @@ use Rattle.catalogue.specs.Outcome.{Outcome, accepted, ask}
 use Rattle.catalogue.proofs.Outcomes.{ask-yes, ask-no}
 use Rattle.catalogue.proofs.Passed.{after-accepted}
 use Rattle.rules.specs.Axioms.{Axioms, catalogueAxioms}
-use Rattle.store.specs.Parts.{inForce}
+use Rattle.layout.specs.Parts.{inForce}
 use Rattle.store.specs.Checks.{storeFits, askStore, askSpare, askLimit, axiomsInLimit}
 use Rattle.store.specs.Written.{written}
 use Rattle.store.proofs.AxiomCounts.{catalogue-count}

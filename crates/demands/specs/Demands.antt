@@ -13,7 +13,7 @@ use Rattle.catalogue.specs.Checks.{checked}
 use Rattle.rules.specs.Axioms.{InRange, catalogueAxioms}
 use Rattle.rules.specs.Occurrence.{Occurs}
 use Rattle.rules.specs.Models.{Entails, Refuted}
-use Rattle.store.specs.Parts.{used, workUsed, inForce}
+use Rattle.layout.specs.Parts.{used, workUsed, inForce}
 use Rattle.store.specs.Fresh.{Fresh}
 use Rattle.store.specs.Written.{axiomCount, written, SameRecords}
 use Rattle.lookups.specs.Answers.{lookedUp}
@@ -27,8 +27,8 @@ use Rattle.lookups.specs.declared.handing.Handed.{Handed}
 use Rattle.writing.specs.Write.{Writes}
 use Rattle.writing.specs.declared.Wrote.{Wrote}
 use Rattle.writing.specs.declared.Wrote.the-variants as writes
-use Rattle.closure.specs.Classified.{classifyChecks, Classifies}
-use Rattle.closure.specs.declared.Classified.{Classified}
+use Rattle.classification.specs.Classified.{classifyChecks, Classifies}
+use Rattle.classification.specs.declared.Classified.{Classified}
 
 -- After an accepted classify of any catalogue, whatever the store and the work space held: P of the catalogue and of the store that is left.
 abbrev pub AfterClassify : (List ℕ → List ℕ → Type 0) → Type 0

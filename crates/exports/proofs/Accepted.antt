@@ -9,7 +9,7 @@ use lib.ListN.{length}
 use Rattle.catalogue.specs.Outcome.{Outcome, accepted}
 use Rattle.catalogue.proofs.Outcomes.{never-both}
 use Rattle.catalogue.proofs.Refusals.{Small}
-use Rattle.closure.proofs.Refusals.{small-classify}
+use Rattle.classification.proofs.Refusals.{small-classify}
 use Rattle.lookups.proofs.Refusals.{small-read, small-list}
 use Rattle.writing.proofs.Refusals.{small-write}
 use Rattle.exports.specs.declared.Reply.{Reply}

@@ -7,10 +7,10 @@ use mathlib.Core.List.{List}
 use lib.ListN.{length}
 use Rattle.catalogue.specs.Outcome.{Outcome}
 use Rattle.store.specs.Work.{workAfter}
-use Rattle.closure.specs.declared.Classified.{Classified}
-use Rattle.closure.specs.declared.Classified.the-variants.{Done}
-use Rattle.closure.specs.Classified.{Classifies}
-use Rattle.closure.proofs.Outcomes.{answer-outcome}
+use Rattle.classification.specs.declared.Classified.{Classified}
+use Rattle.classification.specs.declared.Classified.the-variants.{Done}
+use Rattle.classification.specs.Classified.{Classifies}
+use Rattle.classification.proofs.Outcomes.{answer-outcome}
 use Rattle.lookups.specs.declared.kinds.Listed.{Listed}
 use Rattle.lookups.specs.declared.kinds.Listed.the-variants.{Count}
 use Rattle.lookups.specs.Listings.{Lists}

@@ -7,9 +7,9 @@ use lib.Dec.{lit<}
 use lib.ListN.{length}
 use Rattle.catalogue.specs.Outcome.{Outcome}
 use Rattle.catalogue.proofs.Refusals.{Small}
-use Rattle.closure.specs.declared.Classified.{Classified}
-use Rattle.closure.specs.Classified.{Classifies}
-use Rattle.closure.proofs.Refusals.{small-classify}
+use Rattle.classification.specs.declared.Classified.{Classified}
+use Rattle.classification.specs.Classified.{Classifies}
+use Rattle.classification.proofs.Refusals.{small-classify}
 use Rattle.lookups.specs.declared.kinds.Listed.{Listed}
 use Rattle.lookups.specs.Answers.{lookedUp}
 use Rattle.lookups.specs.Listings.{Lists}

@@ -5,10 +5,10 @@ use mathlib.Core.Bool.{Bool, true, false}
 use mathlib.Core.List.{List, [], _∷_}
 use lib.ListN.{length}
 use Rattle.catalogue.specs.Outcome.{Outcome, accepted, refused}
-use Rattle.closure.specs.declared.Classified.{Classified}
-use Rattle.closure.specs.declared.Classified.the-variants.{Done}
-use Rattle.closure.specs.Classified.{classifyChecks, Classifies}
-use Rattle.closure.proofs.Outcomes.{answer-outcome}
+use Rattle.classification.specs.declared.Classified.{Classified}
+use Rattle.classification.specs.declared.Classified.the-variants.{Done}
+use Rattle.classification.specs.Classified.{classifyChecks, Classifies}
+use Rattle.classification.proofs.Outcomes.{answer-outcome}
 use Rattle.lookups.specs.declared.pairs.Looked.{Looked}
 use Rattle.lookups.specs.declared.kinds.Listed.{Listed}
 use Rattle.lookups.specs.declared.handing.Handed.{Handed}

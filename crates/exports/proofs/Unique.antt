@@ -5,9 +5,9 @@ use native.Mathlib.Omega.{arith}
 use mathlib.Core.Path.{_≡_, refl, sym, ap, _∙_}
 use mathlib.Core.List.{List}
 use lib.ListN.{length}
-use Rattle.closure.specs.declared.Classified.{Classified}
-use Rattle.closure.specs.Classified.{Classifies}
-use Rattle.closure.proofs.Unique.{classifies-unique}
+use Rattle.classification.specs.declared.Classified.{Classified}
+use Rattle.classification.specs.Classified.{Classifies}
+use Rattle.classification.proofs.Unique.{classifies-unique}
 use Rattle.lookups.proofs.Unique.{lists-unique}
 use Rattle.writing.proofs.Unique.{by-outcome-unique}
 use Rattle.exports.specs.declared.Reply.{Reply}

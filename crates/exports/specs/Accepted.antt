@@ -5,7 +5,7 @@ use mathlib.Core.Logic.{_↔_}
 use mathlib.Core.List.{List, [], _∷_}
 use lib.ListN.{length}
 use Rattle.catalogue.specs.Outcome.{Outcome, accepted}
-use Rattle.closure.specs.Classified.{classifyChecks}
+use Rattle.classification.specs.Classified.{classifyChecks}
 use Rattle.lookups.specs.Checks.{readChecks, listChecks}
 use Rattle.writing.specs.Write.{writeChecks}
 use Rattle.exports.specs.Classify.{ClassifyExported}

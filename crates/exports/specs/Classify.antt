@@ -1,9 +1,9 @@
 -- What girvotal_classify answers and leaves, by classify's own definitions.
 use Prim.Native.Nat.{ℕ}
 use mathlib.Core.List.{List}
-use Rattle.closure.specs.declared.Classified.{Classified}
-use Rattle.closure.specs.declared.Classified.the-variants.{Done, Refused}
-use Rattle.closure.specs.Classified.{Classifies}
+use Rattle.classification.specs.declared.Classified.{Classified}
+use Rattle.classification.specs.declared.Classified.the-variants.{Done, Refused}
+use Rattle.classification.specs.Classified.{Classifies}
 use Rattle.exports.specs.declared.Reply.{Reply}
 use Rattle.exports.specs.declared.Reply.the-variants.{Accepted}
 use Rattle.exports.specs.Answers.{Exported}

@@ -6,7 +6,7 @@ ghost use Rattle.exports.specs.Answers.{returned, answered, Given};
 ghost use Rattle.exports.specs.Classify.{classifyReply, ClassifyExported};
 ghost use Rattle.exports.specs.Lookups.{lookupReply, LookupExported, listReply, ListExported, rowReply, RowExported};
 ghost use Rattle.exports.specs.Write.{writeReply, WriteExported};
-use closure::Classified;
+use classification::Classified;
 use lookups::Handed;
 use lookups::Listed;
 use lookups::Looked;
@@ -113,7 +113,7 @@ pub extern "C" fn girvotal_classify(
     if answer.len() < ENTRIES {
         return SHORT_ANSWER;
     }
-    let classified = closure::classify(catalogue, store, work);
+    let classified = classification::classify(catalogue, store, work);
     give(answer, classify_reply(classified))
 }
 

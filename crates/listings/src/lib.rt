@@ -1,6 +1,6 @@
 // The body of the listing program (document 01, Examples), for the programs that run it.
-use closure::Classified;
-use closure::classify;
+use classification::Classified;
+use classification::classify;
 use libc::STDIN_FILENO;
 use libc::STDOUT_FILENO;
 use text::refusal_text;
@@ -8,7 +8,7 @@ use text::row_text;
 use text::summary_text;
 ghost use Prim.Native.Nat.{_<_};
 ghost use Rattle.catalogue.specs.Header.{concepts};
-ghost use Rattle.store.specs.Parts.{Sized};
+ghost use Rattle.layout.specs.Parts.{Sized};
 
 // Writes the line of a refusal.
 fn print_refusal(number: usize) {

@@ -13,9 +13,9 @@ use Rattle.catalogue.specs.WellFormed.{WellFormed}
 use Rattle.catalogue.proofs.Outcomes.{ask-accepted, followed-ask, followed-both}
 use Rattle.catalogue.proofs.Passed.{checks-followed}
 use Rattle.catalogue.proofs.Accepted.{accepted-well-formed}
-use Rattle.derivation.proofs.Decided.{both}
+use Rattle.booleans.proofs.Booleans.{both}
 use Rattle.rules.specs.Occurrence.{occurs}
-use Rattle.store.specs.Parts.{Sized, used, inForce, spareClear}
+use Rattle.layout.specs.Parts.{Sized, used, inForce, spareClear}
 use Rattle.store.specs.Checks.{storeFits, listFits, axiomsInLimit, askStore, askList, askSpare, askLimit}
 use Rattle.lookups.specs.Checks.{every, askNumbers, askOccurs, openChecks, contentChecks, readChecks, listChecks, Named}
 

@@ -8,7 +8,7 @@ use lib.ListN.{length, take, drop}
 use denote.Ref.{RefT, ptr, now}
 use Rattle.catalogue.specs.Outcome.{Outcome, accepted, refused}
 use Rattle.rules.specs.Rules.{pair}
-use Rattle.store.specs.Parts.{width, pairRowAt, held}
+use Rattle.layout.specs.Parts.{width, pairRowAt, held}
 use Rattle.lookups.specs.Checks.{readChecks, listChecks}
 use Rattle.lookups.specs.Answers.{looked, lookedUp}
 use Rattle.lookups.specs.Listings.{kindsUnder, listed, listAfter, Lists, Filled}
@@ -18,7 +18,7 @@ use Rattle.lookups.specs.declared.pairs.Looked.the-variants as looks
 use Rattle.lookups.specs.declared.kinds.Listed.the-variants as lists
 use Rattle.lookups.specs.declared.handing.Handed.the-variants as hands
 use Rattle.lookups.proofs.Acceptance.{read-named, named-one}
-use Rattle.lookups.proofs.Offsets.{row-in-store}
+use Rattle.layout.proofs.Offsets.{row-in-store}
 
 -- ---- lookup
 

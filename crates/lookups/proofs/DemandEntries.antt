@@ -13,7 +13,7 @@ use Rattle.catalogue.proofs.Accepted.{accepted-well-formed}
 use Rattle.rules.specs.Axioms.{Axioms, InRange}
 use Rattle.rules.specs.Occurrence.{Occurs, occurs}
 use Rattle.rules.proofs.Occurrence.{occurs-exact}
-use Rattle.store.specs.Parts.{inForce}
+use Rattle.layout.specs.Parts.{inForce}
 use Rattle.store.specs.Fresh.{Fresh}
 use Rattle.store.specs.Written.{axiomCount}
 use Rattle.store.proofs.Rising.{rising-lists}

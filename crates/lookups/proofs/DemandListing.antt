@@ -17,12 +17,12 @@ use Rattle.catalogue.specs.Checks.{checked}
 use Rattle.catalogue.specs.WellFormed.{WellFormed}
 use Rattle.catalogue.proofs.Outcomes.{ask-yes, ask-no}
 use Rattle.catalogue.proofs.Accepted.{accepted-well-formed}
-use Rattle.derivation.proofs.Decided.{by-bool, not-both, both}
+use Rattle.booleans.proofs.Booleans.{by-bool, not-both, both}
 use Rattle.rules.specs.Axioms.{Axioms, InRange}
 use Rattle.rules.specs.Occurrence.{Occurs, occurs}
 use Rattle.rules.specs.Rules.{pair, partition}
 use Rattle.rules.proofs.Occurrence.{occurs-exact, occurs-below}
-use Rattle.store.specs.Parts.{held}
+use Rattle.layout.specs.Parts.{held}
 use Rattle.store.specs.Written.{axiomCount}
 use Rattle.store.specs.Fresh.{Fresh}
 use Rattle.store.specs.Checks.{listFits, askList}

@@ -15,7 +15,7 @@ use Rattle.catalogue.specs.WellFormed.{WellFormed}
 use Rattle.catalogue.proofs.Outcomes.{ask-yes, ask-no}
 use Rattle.catalogue.proofs.Passed.{after-accepted}
 use Rattle.catalogue.proofs.Accepted.{accepted-well-formed}
-use Rattle.derivation.proofs.Decided.{by-bool, not-both, both}
+use Rattle.booleans.proofs.Booleans.{by-bool, not-both, both}
 use Rattle.rules.specs.Axioms.{Axioms, InRange}
 use Rattle.rules.specs.Occurrence.{Occurs, occurs}
 use Rattle.rules.specs.Rules.{pair}
@@ -23,7 +23,7 @@ use Rattle.rules.specs.Models.{Entails, Refuted}
 use Rattle.rules.proofs.Occurrence.{occurs-exact, occurs-below}
 use Rattle.rules.proofs.DemandTwo.{demand-two-closure}
 use Rattle.rules.proofs.NoAxioms.{none-occurs}
-use Rattle.store.specs.Parts.{inForce, held}
+use Rattle.layout.specs.Parts.{inForce, held}
 use Rattle.store.specs.Written.{axiomCount}
 use Rattle.store.specs.Fresh.{Fresh}
 use Rattle.store.specs.Checks.{storeFits, axiomsInLimit, askStore, askSpare, askLimit}

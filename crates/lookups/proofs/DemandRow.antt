@@ -15,7 +15,7 @@ use Rattle.catalogue.specs.Checks.{checked}
 use Rattle.catalogue.specs.WellFormed.{WellFormed}
 use Rattle.catalogue.proofs.Outcomes.{ask-yes, ask-no}
 use Rattle.catalogue.proofs.Accepted.{accepted-well-formed}
-use Rattle.derivation.proofs.Decided.{by-bool, not-both, not-true-false}
+use Rattle.booleans.proofs.Booleans.{by-bool, not-both, not-true-false}
 use Rattle.rows.specs.Bits.{bit}
 use Rattle.rows.proofs.Bits.{bit-past}
 use Rattle.rules.specs.Axioms.{Axioms, InRange}
@@ -23,11 +23,11 @@ use Rattle.rules.specs.Occurrence.{Occurs, occurs}
 use Rattle.rules.specs.Rules.{pair}
 use Rattle.rules.proofs.Bounds.{closure-named}
 use Rattle.rules.proofs.Occurrence.{occurs-exact, occurs-below}
-use Rattle.store.specs.Parts.{width, pairRowAt, rowAt, held}
+use Rattle.layout.specs.Parts.{width, pairRowAt, rowAt, held}
 use Rattle.store.specs.Fresh.{Fresh}
 use Rattle.store.specs.Written.{axiomCount}
-use Rattle.store.proofs.Sizes.{width-fits}
-use Rattle.store.proofs.StoreRows.{pair-row-bit}
+use Rattle.layout.proofs.StoreSizes.{width-fits}
+use Rattle.layout.proofs.StoreRows.{pair-row-bit}
 use Rattle.lookups.specs.Checks.{every, askNumbers, askOccurs, readChecks}
 use Rattle.lookups.specs.Rows.{rowAnswer, HandsOut}
 use Rattle.lookups.specs.Meaning.{RowMeans}

@@ -9,7 +9,7 @@ use lib.ListN.{length, getD, set, drop, length-append}
 use lib.Seq.{drop-cons}
 use Rattle.catalogue.specs.Words.{bytesOf}
 use Rattle.rows.proofs.Counting.{count-le}
-use Rattle.derivation.proofs.Decided.{by-bool}
+use Rattle.booleans.proofs.Booleans.{by-bool}
 use Rattle.store.specs.Written.{rising, setWord}
 use Rattle.store.proofs.Rising.{length-rising}
 use Rattle.lookups.specs.Listings.{withFront, Filled, Entered}

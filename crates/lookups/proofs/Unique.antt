@@ -9,16 +9,16 @@ use Rattle.catalogue.specs.Header.{concepts}
 use Rattle.catalogue.specs.Outcome.{Outcome, accepted, refused}
 use Rattle.rows.specs.Bits.{bit}
 use Rattle.rules.specs.Rules.{pair}
-use Rattle.blocks.proofs.RowParts.{bit-mid}
-use Rattle.store.specs.Parts.{width, pairRowAt, held}
-use Rattle.store.proofs.Sizes.{width-fits}
+use Rattle.rows.proofs.RowParts.{bit-mid}
+use Rattle.layout.specs.Parts.{width, pairRowAt, held}
+use Rattle.layout.proofs.StoreSizes.{width-fits}
 use Rattle.lookups.specs.Checks.{readChecks, listChecks}
 use Rattle.lookups.specs.Listings.{kindsUnder, listed, listAfter, Lists}
 use Rattle.lookups.specs.Rows.{HandsOut}
 use Rattle.lookups.specs.declared.kinds.Listed.{Listed}
 use Rattle.lookups.specs.declared.kinds.Listed.the-variants.{Refused}
 use Rattle.lookups.proofs.Acceptance.{read-named, named-one}
-use Rattle.lookups.proofs.Offsets.{held-pair}
+use Rattle.layout.proofs.Offsets.{held-pair}
 
 -- ---- listing
 

@@ -9,7 +9,7 @@ use Rattle.catalogue.specs.Header.{concepts}
 use Rattle.catalogue.specs.Outcome.{Outcome, accepted, ask}
 use Rattle.catalogue.specs.Checks.{catalogueChecks}
 use Rattle.rules.specs.Occurrence.{Marking, occurs}
-use Rattle.store.specs.Parts.{Clear, inForce, spareClear}
+use Rattle.layout.specs.Parts.{Clear, inForce, spareClear}
 use Rattle.store.specs.Checks.{askStore, askList, askSpare, askLimit, axiomsInLimit}
 -- Every concept that a call names passes a test.
 unfoldable pub use Rattle.derivation.specs.Finite.{each as every}

@@ -10,7 +10,7 @@ use Rattle.catalogue.specs.Records.{kind}
 use Rattle.catalogue.specs.Words.{bytesOf}
 use Rattle.catalogue.specs.Outcome.{Outcome, accepted, refused}
 use Rattle.rules.specs.Rules.{pair}
-use Rattle.store.specs.Parts.{held}
+use Rattle.layout.specs.Parts.{held}
 use Rattle.store.specs.Written.{rising, setWord}
 use Rattle.lookups.specs.Checks.{listChecks}
 use Rattle.lookups.specs.declared.kinds.Listed.{Listed}

@@ -11,7 +11,7 @@ use Rattle.catalogue.specs.Words.{word}
 use Rattle.rows.specs.Bits.{bit}
 use Rattle.rules.specs.Occurrence.{Occurs}
 use Rattle.rules.specs.Models.{Entails, Refuted}
-use Rattle.store.specs.Parts.{width, pairRowAt}
+use Rattle.layout.specs.Parts.{width, pairRowAt}
 use Rattle.lookups.specs.Listings.{withFront}
 use Rattle.lookups.specs.declared.pairs.Looked.{Looked}
 use Rattle.lookups.specs.declared.pairs.Looked.the-variants.{Yes, No, Refused}

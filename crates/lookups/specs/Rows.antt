@@ -5,7 +5,7 @@ use mathlib.Core.List.{List, [], _∷_}
 use lib.ListN.{length, take, drop}
 use denote.Ref.{RefT, ptr, now}
 use Rattle.catalogue.specs.Outcome.{Outcome, accepted, refused}
-use Rattle.store.specs.Parts.{width, pairRowAt}
+use Rattle.layout.specs.Parts.{width, pairRowAt}
 use Rattle.lookups.specs.Checks.{readChecks}
 use Rattle.lookups.specs.declared.handing.Handed.{Handed}
 use Rattle.lookups.specs.declared.handing.Handed.the-variants.{Row, Refused}

@@ -5,9 +5,9 @@ ghost use lib.ListN.{length};
 ghost use Rattle.catalogue.specs.Outcome.{accepted};
 ghost use Rattle.catalogue.specs.Verdicts.{outcomeOf};
 ghost use Rattle.rules.specs.Occurrence.{occurs};
-ghost use Rattle.store.specs.Parts.{Sized, Clear, width, inForce};
+ghost use Rattle.layout.specs.Parts.{Sized, Clear, width, inForce};
 ghost use Rattle.lookups.specs.Checks.{every, openChecks, contentChecks, readChecks, listChecks};
-use blocks::Shape;
+use layout::Shape;
 use catalogue::Verdict;
 
 // Do both concepts occur by the axioms in force? The marks are computed in a row, whatever it held.

@@ -3,7 +3,7 @@ ghost use mathlib.Core.Path.{_≡_};
 ghost use Prim.Native.Nat.{_+_, _*_, _≤_, _<_};
 ghost use lib.ListN.{length};
 ghost use Rattle.catalogue.specs.Header.{concepts};
-ghost use Rattle.store.specs.Parts.{Sized};
+ghost use Rattle.layout.specs.Parts.{Sized};
 ghost use Rattle.lookups.specs.Listings.{atomicUnder, kindsUnder, Lists, Filled, Entered};
 use super::checks::check_listing;
 use super::pairs::has_pair;

@@ -4,10 +4,10 @@ ghost use Prim.Native.Nat.{_<_};
 ghost use Rattle.catalogue.specs.Header.{concepts};
 ghost use Rattle.catalogue.specs.WellFormed.{WellFormed};
 ghost use Rattle.rules.specs.Rules.{pair};
-ghost use Rattle.store.specs.Parts.{Sized, pairRowAt, held};
+ghost use Rattle.layout.specs.Parts.{Sized, pairRowAt, held};
 ghost use Rattle.lookups.specs.Answers.{lookedUp};
 use super::checks::check_reading;
-use blocks::Shape;
+use layout::Shape;
 use catalogue::Verdict;
 
 // What a lookup answers.

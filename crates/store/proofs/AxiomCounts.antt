@@ -13,10 +13,10 @@ use Rattle.catalogue.specs.WellFormed.{WellFormed}
 use Rattle.rows.specs.Bits.{countBelow}
 use Rattle.rows.proofs.ByteBits.{split-last}
 use Rattle.rows.proofs.Counting.{count-ext, count-pass, count-fail}
-use Rattle.derivation.proofs.Decided.{by-bool, not-both, not-true-false, agree}
+use Rattle.booleans.proofs.Booleans.{by-bool, not-both, not-true-false, agree}
 use Rattle.rules.specs.Axioms.{Axioms, catalogueAxioms, added, withdrawn}
 use Rattle.rules.proofs.Axioms.{catalogue-axioms-exact, added-exact, withdrawn-exact}
-use Rattle.blocks.proofs.Places.{row-within}
+use Rattle.rows.proofs.Places.{row-within}
 use Rattle.store.specs.Written.{numbered, axiomCount}
 use Rattle.store.proofs.Written.{number-left, number-right, number-below}
 

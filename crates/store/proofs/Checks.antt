@@ -6,7 +6,7 @@ use mathlib.Core.List.{List}
 use borrow.Author.Tests.{leb-true, leb-false, le-leb}
 use Rattle.catalogue.specs.Header.{concepts}
 use Rattle.rules.specs.Axioms.{Axioms}
-use Rattle.store.specs.Parts.{used, workUsed}
+use Rattle.layout.specs.Parts.{used, workUsed}
 use Rattle.store.specs.Written.{axiomCount}
 use Rattle.store.specs.Checks.{storeFits, workFits, listFits, axiomsInLimit}
 

@@ -7,15 +7,14 @@ use mathlib.Core.Bool.{true, false}
 use mathlib.Core.List.{List}
 use lib.ListN.{length}
 use Rattle.catalogue.specs.Header.{concepts}
-use Rattle.rows.specs.Bits.{bit, countBelow, countBits}
+use Rattle.rows.specs.Bits.{bit, countBelow, countBits, place}
 use Rattle.rows.proofs.Counting.{count-ext, count-add, count-skip}
 use Rattle.rules.specs.Axioms.{Axioms}
-use Rattle.blocks.specs.Layout.{place}
-use Rattle.blocks.proofs.Places.{place-within}
-use Rattle.store.specs.Parts.{width, used, axiomRows, inForce, spareClear}
+use Rattle.rows.proofs.Places.{place-within}
+use Rattle.layout.specs.Parts.{width, used, axiomRows, inForce, spareClear}
 use Rattle.store.specs.Written.{numbered, axiomCount}
-use Rattle.store.proofs.Sizes.{rows-split, width-fits}
-use Rattle.store.proofs.StoreRows.{rows-long, bit-axiom-rows, in-force-bit, spare-clear}
+use Rattle.layout.proofs.StoreSizes.{rows-split, width-fits}
+use Rattle.layout.proofs.StoreRows.{rows-long, bit-axiom-rows, in-force-bit, spare-clear}
 use Rattle.store.proofs.Written.{number-left, number-right}
 
 -- Rows of w bytes that mark F below n and nothing from n upward.

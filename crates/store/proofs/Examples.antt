@@ -10,14 +10,13 @@ use Rattle.catalogue.specs.Records.{kind, first, second, within, around, role1,
 use Rattle.catalogue.specs.Outcome.{accepted, refused, ask, askEach, firstFault, firstFaultFrom}
 use Rattle.catalogue.specs.Checks.{headerFits, totalRight, countsInLimits, offsetsRight, kindRight, fieldsAsKind, fieldsRight, inclusionRight, compositionRight, sidesRight, above, risingRight, recordChecks, catalogueChecks, checked}
 use Rattle.catalogue.specs.Examples.{w1}
-use Rattle.rows.specs.Bits.{byteBit, bit, setBit, countBelow, someBelow}
+use Rattle.rows.specs.Bits.{byteBit, bit, setBit, countBelow, someBelow, place}
 use Rattle.rules.specs.Axioms.{catalogueAxioms}
-use Rattle.blocks.specs.Layout.{place}
-use Rattle.store.specs.Parts.{width, used, workUsed, rowCount, setFrom, spareClear}
+use Rattle.layout.specs.Parts.{width, used, workUsed, rowCount, setFrom, spareClear}
 use Rattle.store.specs.Written.{rising, numbered, axiomCount, sidesOf, axiomRecords, setWord, written}
 use Rattle.store.specs.Checks.{storeFits, workFits, listFits, askStore, askWork, askList, askSpare}
 use Rattle.store.specs.Examples.{eightConcepts}
-use Rattle.store.proofs.StoreRows.{no-spare}
+use Rattle.layout.proofs.StoreRows.{no-spare}
 
 -- W1: the store has 35 bytes, the work space 28, the list 14; one byte less is refused.
 pub w1-lengths : (used w1 ≡ 35) × (workUsed w1 ≡ 28)

@@ -11,16 +11,16 @@ use lib.Seq.{length-take-le, getD-take}
 use lib.Dec.{lit<}
 use Rattle.catalogue.specs.Header.{concepts, roles}
 use Rattle.catalogue.specs.WellFormed.{WellFormed}
-use Rattle.rows.specs.Bits.{bit, Bytes}
+use Rattle.rows.specs.Bits.{bit, Bytes, place}
 use Rattle.rows.proofs.Bits.{same-bits}
 use Rattle.derivation.proofs.Counts.{decides-agree}
 use Rattle.rules.specs.Axioms.{Axioms}
 use Rattle.rules.specs.Rules.{Expression, fact, Closure}
-use Rattle.blocks.specs.Layout.{shapeOf, place, rowOf}
-use Rattle.store.specs.Parts.{width, used, held, rowCount}
+use Rattle.layout.specs.Layout.{shapeOf, rowOf}
+use Rattle.layout.specs.Parts.{width, used, held, rowCount}
 use Rattle.store.specs.Fresh.{Marked, Fresh}
-use Rattle.store.proofs.Sizes.{used-rows, some-width}
-use Rattle.store.proofs.StoreRows.{bit-front, in-force-bit, held-bit, row-cases}
+use Rattle.layout.proofs.StoreSizes.{used-rows, some-width}
+use Rattle.layout.proofs.StoreRows.{bit-front, in-force-bit, held-bit, row-cases}
 
 -- Every bit of the used part is a bit of one of its rows.
 pub bit-in-row : (b : List ℕ) → WellFormed b → (i : ℕ) → i < 8 * used b → (r : ℕ) × (d : ℕ) × (r < rowCount b) × (d < 8 * width b) × (i ≡ place (width b) r d)

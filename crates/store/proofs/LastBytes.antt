@@ -8,14 +8,13 @@ use mathlib.Core.Bool.{true, false}
 use mathlib.Core.List.{List}
 use lib.Dec.{lit<}
 use lib.ListN.{getD}
-use Rattle.rows.specs.Bits.{byteBit, bit}
+use Rattle.rows.specs.Bits.{byteBit, bit, place}
 use Rattle.rows.proofs.Bits.{bit-at}
 use Rattle.rows.proofs.ByteBits.{byteBit-zero, byteBit-ext, byteBit-shift, byteBit-past}
 use Rattle.rows.proofs.Counting.{some-none, none-below}
 use Rattle.rows.proofs.Lowest.{rest-clear}
-use Rattle.derivation.proofs.Decided.{by-bool}
-use Rattle.blocks.specs.Layout.{place}
-use Rattle.store.specs.Parts.{setFrom}
+use Rattle.booleans.proofs.Booleans.{by-bool}
+use Rattle.layout.specs.Parts.{setFrom}
 
 -- A byte without bits from s on is 0 after a shift by s.
 shifted-zero : (x s : ℕ) → x < 256 → ((k : ℕ) → s ≤ k → k < 8 → byteBit x k ≡ false) → x / 2 ^ s ≡ 0

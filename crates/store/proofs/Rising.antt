@@ -12,7 +12,7 @@ use lib.Seq.{getD-append-seam}
 use Rattle.rows.specs.Bits.{countBelow}
 use Rattle.rows.proofs.ByteBits.{split-last}
 use Rattle.rows.proofs.Counting.{count-pass, count-fail}
-use Rattle.derivation.proofs.Decided.{by-bool, not-both}
+use Rattle.booleans.proofs.Booleans.{by-bool, not-both}
 use Rattle.store.specs.Written.{rising}
 
 -- The list ps has the numbers below k that pass the test, rising.

@@ -17,9 +17,9 @@ use Rattle.rules.specs.Occurrence.{Marking, Occurs, left-side, right-side, part
 use Rattle.rules.specs.Rules.{Expression, pair, link, Inference, rule1, rule2, rule3, rule4-first, rule4-second, rule5, rule6, rule7, rule8, premise, conclusion, Allows, Derived, Closure}
 use Rattle.rules.proofs.Occurrence.{occurs-below, exact-unique, occurs-exact}
 use Rattle.rules.proofs.Rules.{Kind, allows-rule1, allows-rule2, allows-rule3, allows-rule4-first, allows-rule4-second, allows-rule5, allows-rule6, allows-rule7, allows-rule8}
-use Rattle.blocks.specs.declared.Shape.{Shape}
-use Rattle.blocks.specs.Layout.{shapeOf, table, marks, tableLength, blockLength}
-use Rattle.store.specs.Parts.{width, used, axiomRows, setRows, inForce, held, rowCount, setFrom, spareClear}
+use Rattle.layout.specs.declared.Shape.{Shape}
+use Rattle.layout.specs.Layout.{shapeOf, table, marks, tableLength, blockLength}
+use Rattle.layout.specs.Parts.{width, used, axiomRows, setRows, inForce, held, rowCount, setFrom, spareClear}
 use Rattle.store.specs.Fresh.{Marked, Fresh}
 use Rattle.store.specs.Written.{axiomCount, written, SameRecords}
 use Rattle.store.proofs.Written.{written-same, written-well-formed}

@@ -7,7 +7,7 @@ use lib.Dec.{leb}
 use Rattle.catalogue.specs.Header.{concepts}
 use Rattle.catalogue.specs.Outcome.{Outcome, ask}
 use Rattle.rules.specs.Axioms.{Axioms}
-use Rattle.store.specs.Parts.{used, workUsed}
+use Rattle.layout.specs.Parts.{used, workUsed}
 use Rattle.store.specs.Written.{axiomCount}
 
 -- 10: store long enough?

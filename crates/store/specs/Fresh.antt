@@ -7,7 +7,7 @@ use mathlib.Core.List.{List}
 use lib.ListN.{length, getD}
 use Rattle.rules.specs.Axioms.{Axioms}
 use Rattle.rules.specs.Rules.{Expression, Closure}
-use Rattle.store.specs.Parts.{used, inForce, held, spareClear}
+use Rattle.layout.specs.Parts.{used, inForce, held, spareClear}
 
 -- The axiom rows mark F, the pair and link rows mark the set S, and nothing else in the used part is marked.
 pub record Marked (b : List ℕ) (F : ℕ → ℕ → Bool) (S : Expression → Type 0) (store : List ℕ) : Type 0 where

@@ -1,5 +1,5 @@
 // The store (document 01, Store): its used part, questions 10 to 14, and what occurs by its axioms.
-use blocks::Shape;
+use layout::Shape;
 use catalogue::Axiom;
 ghost use mathlib.Core.Path.{_≡_};
 ghost use mathlib.Core.Bool.{not};
@@ -9,8 +9,8 @@ ghost use Rattle.catalogue.specs.Header.{concepts, roles};
 ghost use Rattle.catalogue.specs.WellFormed.{WellFormed};
 ghost use Rattle.rows.specs.Bits.{bit, someBelow};
 ghost use Rattle.rules.specs.Occurrence.{occurs};
-ghost use Rattle.store.specs.Parts as parts;
-ghost use Rattle.store.specs.Parts.{Sized, Clear, InLastByte, inForce, setFrom, spareClear};
+ghost use Rattle.layout.specs.Parts as parts;
+ghost use Rattle.layout.specs.Parts.{Sized, Clear, InLastByte, inForce, setFrom, spareClear};
 ghost use Rattle.store.specs.Written.{axiomCount};
 ghost use Rattle.store.specs.Checks.{storeFits, workFits, listFits, axiomsInLimit};
 

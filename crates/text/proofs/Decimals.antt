@@ -8,7 +8,7 @@ use mathlib.Core.Bool.{Bool, cond}
 use mathlib.Core.List.{List, [], _∷_, _++_}
 use lib.Dec.{ltb}
 use lib.ListN.{length, length-append}
-use Rattle.derivation.proofs.Decided.{by-bool}
+use Rattle.booleans.proofs.Booleans.{by-bool}
 use Rattle.io.specs.Digits.{digits, glyph, Fewest}
 use Rattle.text.specs.Text.{digitsOf, decimal, pairLine, newline}
 

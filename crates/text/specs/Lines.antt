@@ -6,7 +6,7 @@ use lib.Dec.{eqb}
 use Rattle.catalogue.specs.Header.{concepts}
 use Rattle.catalogue.specs.Records.{kind}
 use Rattle.rules.specs.Rules.{pair}
-use Rattle.store.specs.Parts.{held}
+use Rattle.layout.specs.Parts.{held}
 use Rattle.text.specs.Text.{pairLine}
 
 -- C and D are different atomic concepts, and the store has C⊑D.

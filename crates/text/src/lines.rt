@@ -5,7 +5,7 @@ ghost use mathlib.Core.List.{[]};
 ghost use Prim.Native.Nat.{_+_, _≤_, _<_};
 ghost use lib.ListN.{length};
 ghost use Rattle.catalogue.specs.Header.{concepts};
-ghost use Rattle.store.specs.Parts.{Sized};
+ghost use Rattle.layout.specs.Parts.{Sized};
 ghost use Rattle.text.specs.Text.{pairLine, Appended};
 ghost use Rattle.text.specs.Lines.{named, pairLines};
 use super::put_pair;

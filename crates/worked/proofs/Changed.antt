@@ -12,7 +12,7 @@ use Rattle.derivation.specs.Tables.{has, image}
 use Rattle.derivation.specs.Finite.{Finite, Numbered, Covers, marked}
 use Rattle.derivation.specs.Rounds.{overTable, afterTable, Counts}
 use Rattle.derivation.proofs.Tables.{image-has, image-only}
-use Rattle.derivation.proofs.Decided.{both, negated, or-left, or-right}
+use Rattle.booleans.proofs.Booleans.{both, negated, or-left, or-right}
 use Rattle.derivation.proofs.Finite.{marked-expression}
 use Rattle.derivation.proofs.Change.{over-held}
 use Rattle.derivation.proofs.Computed.{over-computed, broken-computed, after-computed}
@@ -25,8 +25,8 @@ use Rattle.rules.specs.Counts.{Size}
 use Rattle.rules.specs.Presentation.{size, number, expression, presentation}
 use Rattle.rules.proofs.Presentation.{presentation-numbered, numbered-exact}
 use Rattle.rules.proofs.Changes.{over-same, broken-same, after-same, permits-covered, closure-computed, change-closure}
-use Rattle.closure.proofs.Stored.{closure-bounded}
-use Rattle.closure.proofs.Counted.{numbered-count}
+use Rattle.rules.proofs.Bounds.{closure-bounded}
+use Rattle.classification.proofs.Counted.{numbered-count}
 use Rattle.worked.specs.Entries.{Rows, Changed}
 use Rattle.worked.specs.Computed.{passing, union, closureOf, removedOf, overRowsOf, returnedOf, gainedOf, brokenIn, brokenOf, gainingIn, gainingOf}
 use Rattle.worked.proofs.Lists.{passing-exact}

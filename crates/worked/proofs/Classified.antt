@@ -12,16 +12,15 @@ use Rattle.catalogue.specs.WellFormed.{WellFormed}
 use Rattle.derivation.specs.Decided.{Decides}
 use Rattle.derivation.specs.Tables.{has}
 use Rattle.derivation.specs.Finite.{marked}
-use Rattle.derivation.proofs.Decided.{by-bool, not-both}
+use Rattle.booleans.proofs.Booleans.{by-bool, not-both, both}
 use Rattle.derivation.proofs.Tables.{has-empty, image-has, image-only}
-use Rattle.derivation.proofs.Decided.{both}
 use Rattle.rules.specs.Axioms.{Axioms, InRange}
 use Rattle.rules.specs.Rules.{Expression, pair, EL, Closure, Bounded}
 use Rattle.rules.specs.Counts.{Size, isPair, Pairs, Links}
 use Rattle.rules.specs.Presentation.{presentation}
 use Rattle.rules.proofs.Changes.{closure-computed}
-use Rattle.closure.proofs.Stored.{closure-bounded}
-use Rattle.closure.proofs.Counted.{numbered-count}
+use Rattle.rules.proofs.Bounds.{closure-bounded}
+use Rattle.classification.proofs.Counted.{numbered-count}
 use Rattle.worked.specs.Entries.{Rows, Classified}
 use Rattle.worked.specs.Computed.{closureOf, countIn, pairsOf, linksOf, rowBy, rowsBy, rowsOf}
 use Rattle.worked.proofs.Lists.{value-in, value-past}

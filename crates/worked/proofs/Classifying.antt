@@ -13,14 +13,14 @@ use Rattle.rules.specs.Axioms.{catalogueAxioms}
 use Rattle.rules.specs.Rules.{Closure}
 use Rattle.rules.specs.Counts.{Size, Pairs, Links}
 use Rattle.rules.proofs.Counts.{size-unique}
-use Rattle.store.specs.Parts.{used, workUsed}
+use Rattle.layout.specs.Parts.{used, workUsed}
 use Rattle.store.specs.Fresh.{Fresh}
 use Rattle.store.specs.Checks.{storeFits, workFits}
 use Rattle.store.specs.Work.{workAfter}
 use Rattle.store.proofs.Fresh.{fresh-unique}
-use Rattle.closure.specs.Classified.{pairsOf, linksOf}
-use Rattle.closure.proofs.Checks.{refused-catalogue, all-accepted}
-use Rattle.closure.proofs.Unique.{refused-answer, accepted-answer}
+use Rattle.classification.specs.Classified.{pairsOf, linksOf}
+use Rattle.classification.proofs.Checks.{refused-catalogue, all-accepted}
+use Rattle.classification.proofs.Unique.{refused-answer, accepted-answer}
 use Rattle.worked.specs.Calls.{ClassifyGives, ClassifyRefuses}
 
 pub classify-gives : (b : List ℕ) (pairs links : ℕ) (part : List ℕ) → checked b ≡ accepted → length part ≡ used b → Fresh b (catalogueAxioms b) part

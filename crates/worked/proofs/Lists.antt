@@ -7,7 +7,7 @@ use mathlib.Core.Logic.{_↔_, _⊎_, inl, inr}
 use mathlib.Core.Bool.{Bool, true, false}
 use mathlib.Core.List.{_∷_, List·Memᴰ, List·Memᴰ·head, List·Memᴰ·tail, List·Memᴰ·not-nil, List·Memᴰ·cases-cons}
 use lib.ListN.{getD}
-use Rattle.derivation.proofs.Decided.{by-bool, not-both}
+use Rattle.booleans.proofs.Booleans.{by-bool, not-both}
 use Rattle.worked.specs.Computed.{values, passing}
 
 -- Value j of a row, and the default past its end.

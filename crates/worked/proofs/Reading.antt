@@ -15,15 +15,15 @@ use Rattle.catalogue.specs.Checks.{headerFits, totalRight, countsInLimits, offs
 use Rattle.catalogue.specs.Examples.{w1}
 use Rattle.catalogue.proofs.Examples.{w1-offsets, w1-accepted, w1-well-formed}
 use Rattle.catalogue.proofs.Outcomes.{ask-yes}
-use Rattle.rows.specs.Bits.{byteBit, bit, setBit, countBelow, someBelow}
+use Rattle.rows.specs.Bits.{byteBit, bit, setBit, countBelow, someBelow, place}
 use Rattle.derivation.specs.Tables.{has}
-use Rattle.derivation.proofs.Decided.{not-both, not-true-false}
+use Rattle.booleans.proofs.Booleans.{not-both, not-true-false}
 use Rattle.derivation.proofs.Counts.{decides-agree}
 use Rattle.rules.specs.Occurrence.{Occurs, occurs}
 use Rattle.rules.specs.Rules.{Expression, pair, Closure}
 use Rattle.rules.proofs.Occurrence.{occurs-exact}
-use Rattle.blocks.specs.Layout.{shapeOf, place, rowOf, marks, blockLength, tableLength}
-use Rattle.store.specs.Parts.{width, used, pairRowAt, setRows, inForce, held, rowCount, setFrom, spareClear}
+use Rattle.layout.specs.Layout.{shapeOf, rowOf, marks, blockLength, tableLength}
+use Rattle.layout.specs.Parts.{width, used, pairRowAt, setRows, inForce, held, rowCount, setFrom, spareClear}
 use Rattle.store.specs.Written.{numbered, axiomCount, rising, written}
 use Rattle.store.specs.Fresh.{Fresh}
 use Rattle.store.specs.Checks.{storeFits, listFits, axiomsInLimit, askStore, askList, askSpare}

@@ -10,7 +10,7 @@ use borrow.Author.Tests.{leb-false}
 use Rattle.catalogue.specs.Words.{word}
 use Rattle.catalogue.specs.Header.{concepts, roles}
 use Rattle.catalogue.specs.WellFormed.{WellFormed}
-use Rattle.rows.specs.Bits.{byteBit, bit, someBelow}
+use Rattle.rows.specs.Bits.{byteBit, bit, someBelow, place}
 use Rattle.rows.proofs.Counting.{none-below}
 use Rattle.derivation.specs.Decided.{Decides}
 use Rattle.derivation.specs.Finite.{marked}
@@ -19,12 +19,13 @@ use Rattle.rules.specs.Axioms.{Axioms, InRange}
 use Rattle.rules.specs.Rules.{fact, EL, Closure}
 use Rattle.rules.specs.Presentation.{presentation}
 use Rattle.rules.proofs.Changes.{closure-computed}
-use Rattle.blocks.specs.Layout.{shapeOf, place, rowOf, marks, table, blockLength, tableLength}
-use Rattle.blocks.proofs.BlockRows.{marks-elim, table-elim}
-use Rattle.store.specs.Parts.{width, used, axiomRows, setRows, inForce, held}
+use Rattle.layout.specs.Layout.{shapeOf, rowOf, marks, table, blockLength, tableLength}
+use Rattle.layout.proofs.BlockRows.{marks-elim, table-elim}
+use Rattle.layout.specs.Parts.{width, used, axiomRows, setRows, inForce, held}
 use Rattle.store.specs.Fresh.{Fresh}
-use Rattle.store.proofs.Sizes.{width-fits}
-use Rattle.closure.proofs.Stored.{closure-bounded, marks-fresh}
+use Rattle.layout.proofs.StoreSizes.{width-fits}
+use Rattle.rules.proofs.Bounds.{closure-bounded}
+use Rattle.store.proofs.Stored.{marks-fresh}
 use Rattle.worked.specs.Computed.{closureOf}
 
 differ : Bool → Bool → Bool

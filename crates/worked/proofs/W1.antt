@@ -9,7 +9,7 @@ use lib.Seq.{take-all}
 use Rattle.catalogue.specs.Examples.{w1}
 use Rattle.rules.specs.Axioms.{InRange}
 use Rattle.rules.proofs.Axioms.{catalogue-in-range}
-use Rattle.store.specs.Parts.{used}
+use Rattle.layout.specs.Parts.{used}
 use Rattle.store.specs.Fresh.{Fresh}
 use Rattle.store.proofs.Examples.{w1-lengths}
 use Rattle.store.proofs.Fresh.{fresh-unique}

@@ -7,7 +7,7 @@ use mathlib.Core.List.{[], _∷_}
 use lib.ListN.{length, take, drop}
 use Rattle.catalogue.specs.Words.{word}
 use Rattle.catalogue.specs.Header.{concepts, roles}
-use Rattle.store.specs.Parts.{width, used, workUsed}
+use Rattle.layout.specs.Parts.{width, used, workUsed}
 use Rattle.store.specs.Fresh.{Fresh}
 use Rattle.worked.specs.Stores.{w7Store}
 use Rattle.worked.specs.Calls.{ClassifyGives}

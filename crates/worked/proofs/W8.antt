@@ -12,28 +12,29 @@ use Rattle.catalogue.specs.Outcome.{accepted}
 use Rattle.catalogue.specs.Checks.{checked}
 use Rattle.catalogue.specs.WellFormed.{WellFormed}
 use Rattle.catalogue.proofs.Accepted.{accepted-well-formed}
-use Rattle.rows.specs.Bits.{bit, countBelow}
+use Rattle.rows.specs.Bits.{bit, countBelow, place}
 use Rattle.rows.proofs.Counting.{count-none}
 use Rattle.rows.proofs.Bits.{bit-zeros}
-use Rattle.derivation.proofs.Decided.{not-both, not-true-false}
+use Rattle.booleans.proofs.Booleans.{not-both, not-true-false}
 use Rattle.rules.specs.Axioms.{Axioms, InRange, none, catalogueAxioms}
 use Rattle.rules.specs.Rules.{Expression, fact, Closure}
 use Rattle.rules.specs.Counts.{sum, countOver, Size}
 use Rattle.rules.proofs.Axioms.{catalogue-axioms-exact}
 use Rattle.rules.proofs.NoAxioms.{none-derived}
-use Rattle.blocks.specs.Layout.{shapeOf, place, rowOf}
-use Rattle.blocks.proofs.Places.{place-within, rowOf-below}
-use Rattle.blocks.proofs.BlockRows.{marks-elim, table-elim}
-use Rattle.store.specs.Parts.{width, used, workUsed, rowCount, axiomRows, setRows, inForce, held}
+use Rattle.layout.specs.Layout.{shapeOf, rowOf}
+use Rattle.rows.proofs.Places.{place-within}
+use Rattle.layout.proofs.Places.{rowOf-below}
+use Rattle.layout.proofs.BlockRows.{marks-elim, table-elim}
+use Rattle.layout.specs.Parts.{width, used, workUsed, rowCount, axiomRows, setRows, inForce, held}
 use Rattle.store.specs.Written.{numbered, axiomCount}
 use Rattle.store.specs.Fresh.{Fresh}
-use Rattle.store.proofs.Sizes.{used-rows, rows-split}
-use Rattle.store.proofs.StoreRows.{bit-front, in-force-bit, held-bit}
+use Rattle.layout.proofs.StoreSizes.{used-rows, rows-split}
+use Rattle.layout.proofs.StoreRows.{bit-front, in-force-bit, held-bit}
 use Rattle.lookups.specs.Answers.{lookedUp}
 use Rattle.lookups.specs.declared.pairs.Looked.the-variants.{Refused}
 use Rattle.lookups.proofs.DemandLookup.{no-axioms-absent}
-use Rattle.closure.proofs.Stored.{marks-fresh}
-use Rattle.closure.proofs.Sums.{sum-zero}
+use Rattle.store.proofs.Stored.{marks-fresh}
+use Rattle.classification.proofs.Sums.{sum-zero}
 use Rattle.worked.specs.Calls.{ClassifyGives}
 use Rattle.worked.proofs.Classifying.{classify-gives}
 

@@ -3,9 +3,9 @@ use Prim.Native.Nat.{ℕ, _≤_}
 use mathlib.Core.Path.{_≡_}
 use mathlib.Core.List.{List, _++_}
 use lib.ListN.{length, take, drop}
-use Rattle.closure.specs.Classified.{Classifies}
-use Rattle.closure.specs.declared.Classified.{Classified}
-use Rattle.closure.specs.declared.Classified.the-variants.{Done, Refused}
+use Rattle.classification.specs.Classified.{Classifies}
+use Rattle.classification.specs.declared.Classified.{Classified}
+use Rattle.classification.specs.declared.Classified.the-variants.{Done, Refused}
 use Rattle.lookups.specs.Listings.{Lists}
 use Rattle.lookups.specs.declared.kinds.Listed.{Listed}
 use Rattle.lookups.specs.declared.kinds.Listed.the-variants.{Count}

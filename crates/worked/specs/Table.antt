@@ -17,7 +17,7 @@ use Rattle.rules.specs.Axioms.{Axioms, catalogueAxioms, none, added, withdrawn}
 use Rattle.rules.specs.Occurrence.{Occurs}
 use Rattle.rules.specs.Rules.{Expression, pair, Closure}
 use Rattle.rules.specs.Changes.{OverDeleted, NewSet}
-use Rattle.store.specs.Parts.{used, workUsed, spareClear}
+use Rattle.layout.specs.Parts.{used, workUsed, spareClear}
 use Rattle.store.specs.Fresh.{Fresh}
 use Rattle.store.specs.Checks.{askSpare}
 use Rattle.store.specs.Written.{rising}

@@ -8,7 +8,7 @@ use Rattle.catalogue.specs.Header.{axiomsAt}
 use Rattle.catalogue.specs.Outcome.{Outcome, accepted, refused, ask}
 use Rattle.catalogue.specs.Checks.{checked, catalogueChecks}
 use Rattle.catalogue.proofs.Passed.{after-accepted, after-refused}
-use Rattle.store.specs.Parts.{inForce, spareClear}
+use Rattle.layout.specs.Parts.{inForce, spareClear}
 use Rattle.store.specs.Checks.{storeFits, axiomsInLimit, askStore, askSpare, askLimit}
 use Rattle.store.specs.Written.{written}
 use Rattle.writing.specs.Write.{outputFits, storeChecks, writeChecks, ByOutcome, wrote, stays}

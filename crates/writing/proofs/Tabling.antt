@@ -7,11 +7,10 @@ use native.Mathlib.Nat.{zero-mul, add-mul, one-mul, add-zero}
 use native.Mathlib.Omega.{arith}
 use lib.ListN.{length, drop, length-take}
 use borrow.Rule.Slice.PartMut.{midOf}
-use Rattle.rows.specs.Bits.{bit, countBelow}
+use Rattle.rows.specs.Bits.{bit, countBelow, place}
 use Rattle.rows.proofs.Counting.{count-add, count-ext, count-up}
-use Rattle.blocks.specs.Layout.{place}
-use Rattle.blocks.proofs.Places.{row-within}
-use Rattle.blocks.proofs.RowParts.{span, row-read}
+use Rattle.rows.proofs.Places.{row-within}
+use Rattle.rows.proofs.RowParts.{span, row-read}
 use Rattle.store.specs.Written.{rising}
 use Rattle.store.proofs.Rising.{length-rising}
 use Rattle.store.proofs.Written.{number-left, number-right}

@@ -8,9 +8,9 @@ use Rattle.catalogue.specs.Outcome.{Outcome, accepted, refused}
 use Rattle.catalogue.specs.Checks.{checked}
 use Rattle.catalogue.specs.WellFormed.{WellFormed}
 use Rattle.rules.specs.Axioms.{catalogueAxioms}
-use Rattle.store.specs.Parts.{inForce, spareClear}
+use Rattle.layout.specs.Parts.{inForce, spareClear}
 use Rattle.store.specs.Written.{axiomCount, written}
-use Rattle.store.proofs.StoreRows.{in-force-range}
+use Rattle.layout.proofs.StoreRows.{in-force-range}
 use Rattle.store.proofs.Written.{written-accepted, written-axioms}
 use Rattle.writing.specs.Write.{ByOutcome, wrote, stays}
 use Rattle.writing.specs.declared.Wrote.{Wrote}

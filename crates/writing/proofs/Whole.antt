@@ -9,14 +9,13 @@ use lib.Seq.{set-append-left, take-at, take-all, length-take-le}
 use Rattle.catalogue.specs.Header.{concepts, axiomsAt}
 use Rattle.catalogue.specs.Words.{bytesOf}
 use Rattle.catalogue.specs.WellFormed.{WellFormed}
-use Rattle.rows.specs.Bits.{bit, countBelow}
+use Rattle.rows.specs.Bits.{bit, countBelow, place}
 use Rattle.rows.proofs.Counting.{count-ext}
-use Rattle.blocks.specs.Layout.{place}
 use Rattle.reader.specs.Copied.{copied}
-use Rattle.store.specs.Parts.{width, inForce}
+use Rattle.layout.specs.Parts.{width, inForce}
 use Rattle.store.specs.Written.{rising, sidesOf, numbered, axiomCount, axiomRecords, setWord, written}
-use Rattle.store.proofs.Sizes.{width-fits, table-long, used-split}
-use Rattle.store.proofs.StoreRows.{in-force-bit}
+use Rattle.layout.proofs.StoreSizes.{width-fits, table-long, used-split}
+use Rattle.layout.proofs.StoreRows.{in-force-bit}
 use Rattle.store.proofs.Written.{number-left, number-right}
 use Rattle.store.proofs.Records.{length-setWord}
 use Rattle.writing.specs.Records.{Recorded, inRows, TableFits, WritesTable, CatalogueFits}

@@ -6,9 +6,8 @@ use mathlib.Core.List.{List, _++_}
 use lib.ListN.{length, take}
 use Rattle.catalogue.specs.Words.{bytesOf}
 use Rattle.catalogue.specs.Header.{axiomsAt}
-use Rattle.rows.specs.Bits.{bit, countBelow}
-use Rattle.blocks.specs.Layout.{place}
-use Rattle.store.specs.Parts.{Clear, inForce}
+use Rattle.rows.specs.Bits.{bit, countBelow, place}
+use Rattle.layout.specs.Parts.{Clear, inForce}
 use Rattle.store.specs.Written.{rising, sidesOf, axiomCount}
 
 -- After `head` stand the records of the numbers below p that pass the test, up to `at`.

@@ -7,7 +7,7 @@ use lib.ListN.{length, drop}
 use lib.Dec.{leb}
 use Rattle.catalogue.specs.Outcome.{Outcome, accepted, refused, ask}
 use Rattle.catalogue.specs.Checks.{catalogueChecks}
-use Rattle.store.specs.Parts.{inForce, spareClear}
+use Rattle.layout.specs.Parts.{inForce, spareClear}
 use Rattle.store.specs.Checks.{askStore, askSpare, askLimit, axiomsInLimit}
 use Rattle.store.specs.Written.{written}
 use Rattle.writing.specs.declared.Wrote.{Wrote}

@@ -10,7 +10,7 @@ ghost use mathlib.Core.List.{List};
 ghost use Prim.Native.Nat.{ℕ, _+_, _*_, _/_, _≤_, _<_};
 ghost use lib.ListN.{length};
 ghost use Rattle.catalogue.specs.WellFormed.{WellFormed};
-ghost use Rattle.store.specs.Parts.{Clear, inForce};
+ghost use Rattle.layout.specs.Parts.{Clear, inForce};
 ghost use Rattle.store.specs.Written.{axiomCount, setWord, written};
 ghost use Rattle.writing.specs.Records.{RowFits, WritesRow, TableFits, WritesTable, CatalogueFits};
 ghost use Rattle.writing.specs.Write.{Writes, WritesChecked};

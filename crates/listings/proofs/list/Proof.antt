@@ -1,6 +1,6 @@
 -- `list` meets its contract: an accepted store is as long as its well-formed catalogue asks.
 use Rattle.catalogue.proofs.Bounds.{header-within}
-use Rattle.closure.proofs.Outcomes.{done-sized}
+use Rattle.classification.proofs.Outcomes.{done-sized}
 use borrow.Author.Needs.{needs}
 use Rattle.listings.proofs.list.Statement.{statement}
 use Rattle.listings.proofs.list.Tie as tie

@@ -5,8 +5,8 @@ use mathlib.Core.Path.{ap, _∙_}
 use lib.ListN.{length-take}
 use borrow.Author.Needs.{needs}
 use Rattle.rows.specs.Bits.{countBits}
-use Rattle.store.proofs.Sizes.{shape-table-limit}
-use Rattle.store.proofs.StoreRows.{rows-taken, taken-long}
+use Rattle.layout.proofs.StoreSizes.{shape-table-limit}
+use Rattle.layout.proofs.StoreRows.{rows-taken, taken-long}
 use Rattle.store.proofs.Counts.{axiom-count}
 use Rattle.store.proofs.axiom_count.Statement.{statement}
 use Rattle.store.proofs.axiom_count.Tie as tie

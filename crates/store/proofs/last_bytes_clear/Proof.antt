@@ -6,8 +6,8 @@ use mathlib.Core.Bool.{false, not}
 use borrow.Author.Needs.{needs}
 use borrow.Author.Count.{below-none, below-more}
 use Rattle.rows.proofs.Counting.{some-at, some-none}
-use Rattle.blocks.proofs.Places.{row-within}
-use Rattle.store.specs.Parts.{setFrom}
+use Rattle.rows.proofs.Places.{row-within}
+use Rattle.layout.specs.Parts.{setFrom}
 use Rattle.store.proofs.LastBytes.{last-clear, last-set}
 use Rattle.store.proofs.last_bytes_clear.Statement.{statement}
 use Rattle.store.proofs.last_bytes_clear.Tie as tie

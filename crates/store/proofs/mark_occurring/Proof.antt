@@ -6,11 +6,11 @@ use mathlib.Core.List.{List}
 use lib.ListN.{length}
 use borrow.Author.Needs.{needs}
 use Rattle.rules.specs.Occurrence.{occurs}
-use Rattle.blocks.specs.Layout.{shapeOf, table}
+use Rattle.layout.specs.Layout.{shapeOf, table}
 use Rattle.occurrence.specs.Marking.{InTable}
-use Rattle.store.specs.Parts.{width, axiomRows, inForce, Clear}
-use Rattle.store.proofs.Sizes.{table-long, width-fits, shape-table-limit}
-use Rattle.store.proofs.StoreRows.{rows-taken, rows-long, taken-long, in-force-range}
+use Rattle.layout.specs.Parts.{width, axiomRows, inForce, Clear}
+use Rattle.layout.proofs.StoreSizes.{table-long, width-fits, shape-table-limit}
+use Rattle.layout.proofs.StoreRows.{rows-taken, rows-long, taken-long, in-force-range}
 use Rattle.store.proofs.mark_occurring.Statement.{statement}
 use Rattle.store.proofs.mark_occurring.Tie as tie
 

@@ -7,9 +7,9 @@ use lib.ListN.{length}
 use borrow.Author.Needs.{needs}
 use Rattle.catalogue.specs.Header.{concepts}
 use Rattle.rows.specs.Bits.{someBelow}
-use Rattle.store.specs.Parts.{width, setFrom, spareClear}
-use Rattle.store.proofs.Sizes.{used-rows, width-fits, rows-limit, shape-roles-limit, shape-rows, shape-concepts, shape-width}
-use Rattle.store.proofs.StoreRows.{no-spare}
+use Rattle.layout.specs.Parts.{width, setFrom, spareClear}
+use Rattle.layout.proofs.StoreSizes.{used-rows, width-fits, rows-limit, shape-roles-limit, shape-rows, shape-concepts, shape-width}
+use Rattle.layout.proofs.StoreRows.{no-spare}
 use Rattle.store.proofs.spare_clear.Statement.{statement}
 use Rattle.store.proofs.spare_clear.Tie as tie
 

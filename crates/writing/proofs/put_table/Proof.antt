@@ -2,7 +2,7 @@
 use borrow.Author.Needs.{needs}
 use Prim.Native.Nat.{ℕ, _+_, _-_, _*_}
 use native.Mathlib.Omega.{arith}
-use Rattle.blocks.proofs.Places.{row-within}
+use Rattle.rows.proofs.Places.{row-within}
 use Rattle.writing.proofs.Tabling.{TableState, table-begins, row-fits, table-goes-on, table-ends}
 use Rattle.writing.proofs.put_table.Statement.{statement}
 use Rattle.writing.proofs.put_table.Tie as tie

@@ -9,11 +9,11 @@ use lib.ListN.{length, take, drop}
 use lib.Seq.{length-take-le}
 use Rattle.catalogue.specs.Header.{axiomsAt}
 use Rattle.catalogue.specs.WellFormed.{WellFormed}
-use Rattle.store.specs.Parts.{Sized, Clear, used, inForce, spareClear}
+use Rattle.layout.specs.Parts.{Sized, Clear, used, inForce, spareClear}
 use Rattle.store.specs.Checks.{storeFits, axiomsInLimit}
 use Rattle.store.specs.Written.{axiomCount, written}
 use Rattle.store.proofs.Written.{length-written}
-use Rattle.store.proofs.StoreRows.{in-force-range}
+use Rattle.layout.proofs.StoreRows.{in-force-range}
 use Rattle.writing.specs.Write.{outputFits}
 use Rattle.writing.specs.Records.{CatalogueFits}
 use Rattle.writing.proofs.Order.{stops-10, stops-13, stops-14, stops-20, writes-all}

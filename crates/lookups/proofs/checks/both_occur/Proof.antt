@@ -1,8 +1,8 @@
 -- `both_occur` meets its contract: the marks are those of the axioms in force, in a row of w of the 64 bytes.
 use mathlib.Core.Path.{sym, _∙_}
 use lib.Seq.{length-take-le}
-use Rattle.store.proofs.Sizes.{shape-width}
-use Rattle.lookups.proofs.Offsets.{width-limit}
+use Rattle.layout.proofs.StoreSizes.{shape-width}
+use Rattle.layout.proofs.Offsets.{width-limit}
 use borrow.Author.Needs.{needs}
 use Rattle.lookups.proofs.checks.both_occur.Statement.{statement}
 use Rattle.lookups.proofs.checks.both_occur.Tie as tie

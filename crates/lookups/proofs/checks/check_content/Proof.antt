@@ -7,7 +7,7 @@ use denote.Ref.{now}
 use borrow.Author.Tests.{not-true, not-false}
 use Rattle.catalogue.specs.Header.{concepts}
 use Rattle.catalogue.proofs.Outcomes.{ask-yes, ask-no}
-use Rattle.store.specs.Parts.{inForce, spareClear}
+use Rattle.layout.specs.Parts.{inForce, spareClear}
 use Rattle.store.specs.Checks.{axiomsInLimit, askSpare, askLimit}
 use Rattle.lookups.specs.Checks.{every, askNumbers, askOccurs, contentChecks}
 use Rattle.lookups.proofs.Acceptance.{numbers-below}

@@ -1,6 +1,6 @@
 -- `enter` meets its contract.
 use mathlib.Core.Path.{refl, sym, _∙_}
-use Rattle.derivation.proofs.Decided.{not-both}
+use Rattle.booleans.proofs.Booleans.{not-both}
 use Rattle.store.specs.Written.{setWord}
 use borrow.Author.Needs.{needs}
 use Rattle.lookups.proofs.kinds.enter.Statement.{statement}

@@ -4,7 +4,7 @@ use mathlib.Core.Path.{sym, ap, subst, _∙_}
 use native.Mathlib.Omega.{arith}
 use denote.Ref.{now}
 use Rattle.rows.specs.Bits.{bit}
-use Rattle.lookups.proofs.Offsets.{offset-limit, held-pair}
+use Rattle.layout.proofs.Offsets.{offset-limit, held-pair}
 use borrow.Author.Needs.{needs}
 use Rattle.lookups.proofs.pairs.has_pair.Statement.{statement}
 use Rattle.lookups.proofs.pairs.has_pair.Tie as tie

@@ -1,0 +1,199 @@
+-- A store put together: axiom rows copied to its front, and a closed block behind them.
+use Prim.Native.Nat.{ℕ, _+_, _-_, _*_, _≤_}
+use native.Mathlib.Nat.{add-mul}
+use native.Mathlib.Decide.{decLt}
+use native.Mathlib.Omega.{arith}
+use mathlib.Core.Path.{_≡_, refl, sym, ap, ap₂, _∙_, subst, fun-ext}
+use mathlib.Core.Bool.{Bool, true, false, _&&_, _||_, and-false}
+use mathlib.Core.List.{List, [], _++_, append-nil}
+use lib.Dec.{ltb}
+use lib.ListN.{length, take, drop, replicate, take-append-drop, length-append, length-take, length-drop, drop-of-length-le}
+use lib.Seq.{take-all, take-at, drop-at, drop-drop, length-take-le}
+use borrow.Rule.Slice.PartMut.{putMid, midOf, postOf, take-put, post-is}
+use Rattle.catalogue.specs.Header.{concepts, roles}
+use Rattle.catalogue.specs.WellFormed.{WellFormed}
+use Rattle.rows.specs.Bits.{bit, countBits, Bytes, place}
+use Rattle.rows.proofs.Bits.{bit-past}
+use Rattle.derivation.specs.Decided.{Decides}
+use Rattle.rules.specs.Axioms.{Axioms, catalogueAxioms}
+use Rattle.rules.specs.Rules.{Closure}
+use Rattle.rules.proofs.Axioms.{catalogue-in-range}
+use Rattle.rules.specs.Counts.{Size, Pairs, Links}
+use Rattle.layout.specs.declared.Shape.{Shape}
+use Rattle.layout.specs.Layout.{shapeOf, table, marks, tableLength, blockLength, Shaped}
+use Rattle.layout.specs.Parts.{width, used, workUsed, axiomRows, setRows, inForce, held}
+use Rattle.store.specs.Fresh.{Fresh}
+use Rattle.layout.proofs.StoreSizes.{used-split, work-is-block, table-long, block-long, used-limit, table-limit}
+use Rattle.layout.proofs.StoreRows.{bit-front}
+use Rattle.classification.specs.AxiomRows.{MarksAxioms}
+use Rattle.classification.specs.Classified.{UsedParts}
+use Rattle.closing.specs.Closing.{Closes}
+use Rattle.rules.proofs.Bounds.{closure-bounded}
+use Rattle.store.proofs.Stored.{marks-fresh}
+use Rattle.classification.proofs.Counted.{pairs-size, links-size}
+
+-- The bytes of a table of rows.
+abbrev pub rowsOf : Shape → ℕ
+rowsOf s = s .concepts * s .width
+
+-- How the store came about: `rows` copied to the front of it, and then `set` put in their place behind them.
+pub record FilledFrom (b rows set work store copied filled : List ℕ) (s : Shape) : Type 0 where
+  pub well-formed : WellFormed b
+  pub long : length store ≡ used b
+  pub rows-long : length rows ≡ rowsOf s
+  pub copied-is : copied ≡ rows ++ drop (rowsOf s) store
+  pub set-long : length set ≡ blockLength s
+  pub filled-is : filled ≡ putMid (rowsOf s) (length store - rowsOf s) copied set
+  pub axioms : (c d : ℕ) → table s rows c d ≡ catalogueAxioms b c d
+  pub closes : Closes b s (table s rows) set work
+  pub bytes : Bytes filled
+
+-- What it holds then.
+pub record FilledTo (b work store filled : List ℕ) (s : Shape) : Type 0 where
+  pub fresh : Fresh b (catalogueAxioms b) filled
+  pub pairs : Size b (Pairs (Closure b (catalogueAxioms b))) (countBits (midOf (rowsOf s) ((rowsOf s + rowsOf s) - rowsOf s) filled))
+  pub links : Size b (Links (Closure b (catalogueAxioms b))) (countBits (midOf (rowsOf s + rowsOf s) (length store - (rowsOf s + rowsOf s)) filled))
+  pub work-zero : work ≡ replicate (workUsed b) 0
+
+-- The sizes of a store's parts, by its shape.
+pub record PartSizes (b store : List ℕ) (s : Shape) : Type 0 where
+  pub whole : length store ≡ rowsOf s + blockLength s
+  pub half : rowsOf s ≤ blockLength s
+  pub limit : length store ≤ 1048576
+  pub table-limit : rowsOf s ≤ 32768
+
+sizes-at : (b store : List ℕ) → WellFormed b → length store ≡ used b → PartSizes b store (shapeOf b)
+unfolding tableLength
+sizes-at b store wf long =
+    let k = block-long b in
+    let a = table-long b in
+    let more = add-mul (concepts b) (concepts b * roles b) (width b) in
+    record {
+      whole = long ∙ used-split b;
+      half = omega arith;
+      limit = omega (arith, used-limit wf);
+      table-limit = omega (arith, table-limit wf);
+    }
+
+pub part-sizes : (b store : List ℕ) (s : Shape) → s ≡ shapeOf b → WellFormed b → length store ≡ used b → PartSizes b store s
+part-sizes b store s e wf long = subst (PartSizes b store) (sym e) (sizes-at b store wf long)
+
+module _ (b rows set work store copied filled : List ℕ) (h : FilledFrom b rows set work store copied filled (shapeOf b)) where
+  F : Axioms
+  F = catalogueAxioms b
+
+  t : ℕ
+  t = tableLength (shapeOf b)
+
+  t-is : rowsOf (shapeOf b) ≡ t
+  unfolding t tableLength
+  t-is = refl
+
+  sizes : PartSizes b store (shapeOf b)
+  sizes = sizes-at b store (h .well-formed) (h .long)
+
+  copied-long : length copied ≡ length store
+  copied-long =
+      let z = sizes in
+      ap length (h .copied-is)
+      ∙ length-append rows (drop (rowsOf (shapeOf b)) store)
+      ∙ (let y : length rows + length (drop (rowsOf (shapeOf b)) store) ≡ length store = omega (arith, h .rows-long, t-is, length-drop (rowsOf (shapeOf b)) store) in y)
+
+  front : take t filled ≡ rows
+  front =
+      ap₂ take (sym t-is) (h .filled-is)
+      ∙ take-put (rowsOf (shapeOf b)) (length store - rowsOf (shapeOf b)) copied set (let z = sizes in omega (arith, copied-long, t-is))
+      ∙ ap (take (rowsOf (shapeOf b))) (h .copied-is)
+      ∙ take-at rows (drop (rowsOf (shapeOf b)) store) (rowsOf (shapeOf b)) (h .rows-long)
+
+  back : drop t filled ≡ set
+  back =
+      let p = rowsOf (shapeOf b) in
+      let within : p ≤ length copied = let z = sizes in omega (arith, copied-long, t-is) in
+      let post : postOf p (length store - p) copied ≡ [] =
+      post-is p (length store) copied (omega (arith, copied-long)) ∙ drop-of-length-le copied {i = length store} (omega (arith, copied-long)) in
+      ap₂ drop (sym t-is) (h .filled-is)
+      ∙ drop-at (take p copied) (set ++ postOf p (length store - p) copied) p (length-take-le p copied within)
+      ∙ ap (λ (l : List ℕ). set ++ l) post
+      ∙ append-nil set
+
+  in-force : (c d : ℕ) → inForce b filled c d ≡ F c d
+  unfolding inForce axiomRows F t
+  in-force c d = ap (λ (l : List ℕ). table (shapeOf b) l c d) front ∙ h .axioms c d
+
+  same : table (shapeOf b) rows ≡ F
+  unfolding F
+  same = fun-ext (λ c. fun-ext (λ d. h .axioms c d))
+
+  set-held : Decides (marks (shapeOf b) set) (Closure b F)
+  set-held = subst (λ (G : Axioms). Decides (marks (shapeOf b) set) (Closure b G)) same (h .closes .held)
+
+  block : setRows b filled ≡ set
+  unfolding setRows t
+  block = ap (take (blockLength (shapeOf b))) back ∙ take-all (blockLength (shapeOf b)) set (omega (arith, h .set-long))
+
+  in-set : Decides (held b filled) (Closure b F)
+  unfolding held
+  in-set = subst (λ (l : List ℕ). Decides (marks (shapeOf b) l) (Closure b F)) (sym block) set-held
+
+  filled-long : length filled ≡ length store
+  filled-long =
+      let z = sizes in
+      ap length (sym (take-append-drop t filled))
+      ∙ length-append (take t filled) (drop t filled)
+      ∙ ap₂ _+_ (ap length front ∙ h .rows-long ∙ t-is) (ap length back ∙ h .set-long)
+      ∙ sym (z .whole ∙ ap (λ (k : ℕ). k + blockLength (shapeOf b)) t-is)
+
+  at-shape : FilledTo b work store filled (shapeOf b)
+  unfolding F t tableLength
+  at-shape =
+      let wf = h .well-formed in
+      let range = catalogue-in-range b wf in
+      let bounded = closure-bounded b F wf range in
+      let p = rowsOf (shapeOf b) in
+      let z = sizes in
+      record {
+        fresh = marks-fresh b F filled wf range in-force in-set (omega (arith, filled-long, h .long)) (λ i l. h .bytes i);
+        pairs =
+            subst (λ (l : List ℕ). Size b (Pairs (Closure b F)) (countBits l))
+            (sym (ap₂ take (let y : (p + p) - p ≡ p = omega arith in y) back))
+            (pairs-size b set (Closure b F) (h .set-long) set-held bounded);
+        links =
+            subst (λ (l : List ℕ). Size b (Links (Closure b F)) (countBits l))
+            (sym
+            (take-all (length store - (p + p)) (drop (p + p) filled) (omega (arith, length-drop (p + p) filled, filled-long))
+            ∙ sym (drop-drop p p filled)
+            ∙ ap (drop p) back))
+            (links-size b set (Closure b F) (h .set-long) set-held bounded);
+        work-zero = h .closes .work-zero ∙ ap (λ (k : ℕ). replicate k 0) (sym (work-is-block b));
+      }
+
+pub store-filled : (b rows set work store copied filled : List ℕ) (s : Shape) → s ≡ shapeOf b → FilledFrom b rows set work store copied filled s → FilledTo b work store filled s
+store-filled b rows set work store copied filled s e =
+    subst (λ (x : Shape). FilledFrom b rows set work store copied filled x → FilledTo b work store filled x) (sym e) (at-shape b rows set work store copied filled)
+
+-- ---- what the parts of a store that is filled ask
+
+-- A prefix of a clear buffer has no marks.
+pub clear-table : (s : Shape) (k : ℕ) (l : List ℕ) → ((i : ℕ) → bit l i ≡ false) → (c d : ℕ) → table s (take k l) c d ≡ false
+unfolding table
+clear-table s k l clear c d =
+    ap (λ (x : Bool). ltb c (s .concepts) && (ltb d (8 * s .width) && x)) (bit-take (place (s .width) c d)) ∙ nothing (ltb c (s .concepts)) (ltb d (8 * s .width))
+  where
+    nothing : (p q : Bool) → (p && (q && false)) ≡ false
+    nothing true q = and-false q
+    nothing false q = refl
+
+    bit-take : (i : ℕ) → bit (take k l) i ≡ false
+    bit-take i =
+        elim (decLt i (8 * k)) [
+          | yes h ↦ bit-front l k i h ∙ clear i
+          | no g ↦ bit-past (take k l) i (omega (arith, length-take k l))
+        ]
+
+-- The axioms of the catalogue, put into a clear table.
+pub catalogue-table : (b : List ℕ) (s : Shape) (k : ℕ) (l rows : List ℕ) → ((i : ℕ) → bit l i ≡ false) → MarksAxioms b s (take k l) rows → (c d : ℕ) → table s rows c d ≡ catalogueAxioms b c d
+catalogue-table b s k l rows clear m c d = m c d ∙ ap (λ (x : Bool). x || catalogueAxioms b c d) (clear-table s k l clear c d)
+
+pub shaped : {b store work : List ℕ} {s : Shape} → UsedParts b store work → s ≡ shapeOf b → Shaped b s
+shaped p e = record { well-formed = p .well-formed; is = e }

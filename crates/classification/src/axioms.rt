@@ -1,0 +1,23 @@
+// The catalogue's axioms as a table of rows, by left side.
+use layout::Shape;
+use catalogue::Axiom;
+use rows::put_in_row;
+ghost use mathlib.Core.Path.{_≡_};
+ghost use lib.ListN.{length};
+ghost use Rattle.layout.specs.Layout.{Shaped, tableLength};
+ghost use Rattle.classification.specs.AxiomRows.{MarksAxioms};
+
+// Marks each axiom of the catalogue.
+pub fn axiom_rows(b: &[u8], s: Shape, table: &mut [u8])
+    requires { ⌜ Shaped (now b) s × (length (now table) ≡ tableLength s) ⌝ }
+    ensures { λ _. ⌜ MarksAxioms (now (b .entry)) s (now (table .entry)) (now (table .exit)) ⌝ }
+{
+    let w = s.width;
+    let count = catalogue::axioms(b);
+    let mut k = 0;
+    while k < count {
+        let axiom = Axiom::at(b, k);
+        put_in_row(table, w, axiom.left, axiom.right);
+        k += 1;
+    }
+}
