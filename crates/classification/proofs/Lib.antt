@@ -1,15 +1,10 @@
-pub mod FromNothing
 pub mod Checks
 pub mod Unique
 pub mod DemandTwo
-pub mod Stored
+pub mod Zeros
 pub mod Sums
 pub mod Counted
 pub mod AxiomTable
-pub mod Seeding
-pub mod Concluding
-pub mod Seeded
-pub mod LeastSet
 pub mod Filled
 pub mod Answers
 pub mod Refusals

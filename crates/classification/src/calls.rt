@@ -2,7 +2,7 @@
 use super::Classified;
 use super::axioms::axiom_rows;
 use super::buffers::table;
-use super::closing::run;
+use super::lending::run;
 use layout::Shape;
 use bytes::copy;
 use catalogue::Verdict;

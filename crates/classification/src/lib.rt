@@ -1,8 +1,7 @@
-// Classification: the axioms of a catalogue in force, and all that the rules give from them.
+// The call classify: the axioms of a catalogue in force, and all that the rules give from them.
 pub mod axioms; // axioms.rt: the catalogue's axioms as a table of rows
 pub mod buffers; // buffers.rt: buffers of zeros
-pub mod seeds; // seeds.rt: what rules 1 and 2 give, which have no premises
-pub mod closing; // closing.rt: seeds from nothing held, and then saturation
+pub mod lending; // lending.rt: closing, with rows lent for it
 pub mod calls; // calls.rt: classify, by questions 1 to 11
 
 pub use calls::classify;

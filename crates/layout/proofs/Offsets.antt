@@ -2,18 +2,17 @@
 use Prim.Native.Nat.{ℕ, _+_, _*_, _≤_, _<_}
 use native.Mathlib.Nat.{mul-le-mul}
 use native.Mathlib.Omega.{arith}
-use mathlib.Core.Path.{_≡_, ap}
+use mathlib.Core.Path.{_≡_}
 use mathlib.Core.List.{List}
 use lib.ListN.{length}
 use Rattle.catalogue.specs.Header.{concepts}
 use Rattle.catalogue.specs.WellFormed.{WellFormed}
 use Rattle.rows.specs.Bits.{bit, place}
 use Rattle.rules.specs.Rules.{pair}
-use Rattle.layout.specs.declared.Shape.{Shape}
-use Rattle.layout.specs.Layout.{shapeOf, rowOf}
+use Rattle.layout.specs.Layout.{rowOf}
 use Rattle.rows.proofs.Places.{row-within}
 use Rattle.layout.specs.Parts.{Sized, width, pairRowAt, rowCount, held}
-use Rattle.layout.proofs.StoreSizes.{used-rows, rows-split, width-fits, shape-width}
+use Rattle.layout.proofs.StoreSizes.{used-rows, rows-split, width-fits}
 use Rattle.layout.proofs.StoreRows.{held-bit}
 
 -- A pair row begins before byte 65,536.
@@ -32,12 +31,3 @@ unfolding pairRowAt
 row-in-store b store c s l =
     let inside : (concepts b + c) * width b + width b ≤ rowCount b * width b = row-within (width b) (concepts b + c) (rowCount b) (omega (arith, rows-split b)) in
     omega (arith, used-rows b, s .long)
-
--- The same by a catalogue's shape.
-pub shape-offset : (b : List ℕ) {s : Shape} (c : ℕ) → s ≡ shapeOf b → (s .concepts + c) * s .width ≡ pairRowAt b c
-unfolding shapeOf width pairRowAt
-shape-offset b c e = ap (λ (s : Shape). (s .concepts + c) * s .width) e
-
-pub width-limit : {b : List ℕ} {s : Shape} → WellFormed b → s ≡ shapeOf b → s .width ≤ 64
-unfolding width
-width-limit {b} f e = omega (arith, shape-width b e, f .concepts-limit)

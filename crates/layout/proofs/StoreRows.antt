@@ -24,7 +24,8 @@ use Rattle.layout.proofs.Places.{rowOf-below}
 use Rattle.rows.proofs.RowParts.{bit-mid}
 use Rattle.layout.proofs.BlockRows.{table-elim}
 use Rattle.layout.specs.Parts.{width, used, axiomRowAt, pairRowAt, linkRowAt, rowAt, axiomRows, setRows, inForce, held, rowCount, setFrom, spareClear}
-use Rattle.layout.proofs.StoreSizes.{table-long, block-long, used-split, rows-split, width-fits, shape-table}
+use Rattle.layout.proofs.StoreSizes.{table-long, block-long, used-split, rows-split, width-fits}
+use Rattle.layout.proofs.Sizes.{shape-table}
 
 -- ---- bits of the two parts
 

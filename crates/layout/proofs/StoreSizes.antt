@@ -1,12 +1,11 @@
--- Sizes: the used part of a store is its axiom rows and its block, as many rows as `rowCount` says, and its limits.
+-- The sizes of a store: its used part is its axiom rows and its block, as many rows as `rowCount` says, and its limits.
 use Prim.Native.Nat.{ℕ, _+_, _*_, _≤_, _<_}
 use native.Mathlib.Nat.{add-mul, mul-add, mul-right-comm, mul-le-mul}
 use native.Mathlib.Omega.{arith}
-use mathlib.Core.Path.{_≡_, refl, sym, ap, subst}
+use mathlib.Core.Path.{_≡_, refl}
 use mathlib.Core.List.{List}
 use Rattle.catalogue.specs.Header.{concepts, roles}
 use Rattle.catalogue.specs.WellFormed.{WellFormed}
-use Rattle.layout.specs.declared.Shape.{Shape}
 use Rattle.layout.specs.Layout.{shapeOf, tableLength, blockLength}
 use Rattle.layout.specs.Parts.{width, used, workUsed, rowCount}
 
@@ -77,28 +76,3 @@ module _ {b : List ℕ} (wf : WellFormed b) where
   pub work-limit : workUsed b ≤ 557056
   unfolding workUsed
   work-limit = mul-le-mul {n₂ = 32768} {m₂ = 17} table-limit (omega (arith, wf .roles-limit))
-
--- The same of a shape that a call has made.
-pub shape-table-limit : {b : List ℕ} {s : Shape} → WellFormed b → s ≡ shapeOf b → s .concepts * s .width ≤ 32768
-unfolding shapeOf width
-shape-table-limit wf e = subst (λ (s : Shape). s .concepts * s .width ≤ 32768) (sym e) (table-limit wf)
-
-pub shape-roles-limit : {b : List ℕ} {s : Shape} → WellFormed b → s ≡ shapeOf b → s .roles ≤ 16
-unfolding shapeOf
-shape-roles-limit wf e = subst (λ (s : Shape). s .roles ≤ 16) (sym e) (wf .roles-limit)
-
-pub shape-table : (b : List ℕ) {s : Shape} → s ≡ shapeOf b → s .concepts * s .width ≡ concepts b * width b
-unfolding shapeOf width
-shape-table b e = ap (λ (s : Shape). s .concepts * s .width) e
-
-pub shape-rows : (b : List ℕ) {s : Shape} → s ≡ shapeOf b → s .concepts * (s .roles + 2) ≡ rowCount b
-unfolding shapeOf rowCount
-shape-rows b e = ap (λ (s : Shape). s .concepts * (s .roles + 2)) e
-
-pub shape-concepts : (b : List ℕ) {s : Shape} → s ≡ shapeOf b → s .concepts ≡ concepts b
-unfolding shapeOf
-shape-concepts b e = ap (λ (s : Shape). s .concepts) e
-
-pub shape-width : (b : List ℕ) {s : Shape} → s ≡ shapeOf b → s .width ≡ width b
-unfolding shapeOf width
-shape-width b e = ap (λ (s : Shape). s .width) e

@@ -1,5 +1,4 @@
 pub mod Acceptance
-pub mod Offsets
 pub mod Answered
 pub mod Filling
 pub mod Unique

@@ -2,9 +2,9 @@
 ghost use mathlib.Core.Path.{_≡_};
 ghost use Rattle.lookups.specs.Rows.{rowAnswer, Within, Names, HandsOut};
 use super::checks::check_reading;
-use super::pairs::pair_offset;
-use layout::Shape;
 use catalogue::Verdict;
+use layout::Shape;
+use layout::pair_offset;
 
 // What a row's call answers: the byte of the store at which the row begins and how many it has, or the refusal.
 pub enum Handed {

@@ -2,30 +2,18 @@
 ghost use mathlib.Core.Path.{_≡_};
 ghost use Prim.Native.Nat.{_<_};
 ghost use Rattle.catalogue.specs.Header.{concepts};
-ghost use Rattle.catalogue.specs.WellFormed.{WellFormed};
 ghost use Rattle.rules.specs.Rules.{pair};
-ghost use Rattle.layout.specs.Parts.{Sized, pairRowAt, held};
+ghost use Rattle.layout.specs.Parts.{Sized, held};
 ghost use Rattle.lookups.specs.Answers.{lookedUp};
 use super::checks::check_reading;
-use layout::Shape;
 use catalogue::Verdict;
+use layout::pair_offset;
 
 // What a lookup answers.
 pub enum Looked {
     Yes,
     No,
     Refused(usize, usize),
-}
-
-// Where the pair row of concept c begins in a store.
-pub fn pair_offset(b: &[u8], c: usize) -> usize
-    requires { ⌜ WellFormed (now b) × (c < concepts (now b)) ⌝ }
-    ensures { λ r. ⌜ r ≡ pairRowAt (now (b .entry)) c ⌝ }
-{
-    let s = Shape::of(b);
-    let n = s.concepts;
-    let w = s.width;
-    (n + c) * w
 }
 
 // Whether the store has the pair of concepts c and d.

@@ -138,6 +138,13 @@ bit-minusRow xs ys i bs h = bit-zip byteMinus less xs ys i (λ x y k l g. byteBi
 
 -- ---- a row of zeros
 
+pub bytes-zero : (k : ℕ) → Bytes (replicate k 0)
+bytes-zero k i =
+    elim (decLt i k) [
+      | yes l ↦ subst (λ (x : ℕ). x < 256) (sym (getD-replicate k i 0 0 l)) (lit< tt)
+      | no g ↦ subst (λ (x : ℕ). x < 256) (sym (List·getD-eq-default (replicate k 0) 0 (omega (arith, length-replicate {A = ℕ} k 0)))) (lit< tt)
+    ]
+
 pub bit-zeros : (n i : ℕ) → bit (replicate n 0) i ≡ false
 unfolding bit
 bit-zeros n i =

@@ -3,3 +3,8 @@ pub mod Bits
 pub mod Counting
 pub mod Lowest
 pub mod Front
+pub mod Places
+pub mod RowParts
+pub mod Unions
+pub mod Walks
+pub mod Puts

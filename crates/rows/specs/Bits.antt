@@ -1,6 +1,6 @@
 -- Bit rows: lists of bytes, bit i being bit i mod 8 of byte i div 8, bit 0 the lowest (document 01, Store).
-use Prim.Native.Nat.{ℕ, zero, suc, _-_, _*_, _/_, _%_, _^_, _<_}
-use mathlib.Core.Bool.{Bool, false, cond, _||_}
+use Prim.Native.Nat.{ℕ, zero, suc, _+_, _-_, _*_, _/_, _%_, _^_, _<_}
+use mathlib.Core.Bool.{Bool, true, false, cond, _||_}
 use mathlib.Core.List.{List, [], _∷_}
 use lib.ListN.{length, getD, set, drop}
 use lib.Dec.{eqb}
@@ -20,6 +20,15 @@ setBit row i = set row (i / 8) (bitOr (getD row (i / 8) 0) (2 ^ (i % 8)))
 
 unfoldable pub clearBit : List ℕ → ℕ → List ℕ
 clearBit row i = set row (i / 8) (bitAnd (getD row (i / 8) 0) (255 - 2 ^ (i % 8)))
+
+-- The row with bit i set where a test holds.
+unfoldable pub setIf : Bool → List ℕ → ℕ → List ℕ
+setIf true row i = setBit row i
+setIf false row i = row
+
+-- Bit i of row r, in rows of w bytes.
+unfoldable pub place : ℕ → ℕ → ℕ → ℕ
+place w r i = 8 * (r * w) + i
 
 -- Two rows byte by byte, as long as the first.
 unfoldable pub zipRow : (ℕ → ℕ → ℕ) → List ℕ → List ℕ → List ℕ

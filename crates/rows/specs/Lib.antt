@@ -1,2 +1,4 @@
 pub mod Bits
 pub mod Next
+pub mod Unions
+pub mod Walks

@@ -1,9 +1,12 @@
 // Bit rows: bit i of a row is bit i mod 8 of byte i div 8, bit 0 the lowest. Nothing here knows of catalogues.
+pub mod walking; // walking.rt: the marked numbers of a row, and the union of the rows that it marks
+
+pub use walking::gather;
 
 ghost use mathlib.Core.Path.{_≡_};
 ghost use Prim.Native.Nat.{_+_, _*_, _≤_, _<_};
 ghost use lib.ListN.{length};
-ghost use Rattle.rows.specs.Bits.{bit, setBit, clearBit, orRow, countBits, anyBit};
+ghost use Rattle.rows.specs.Bits.{bit, setBit, setIf, clearBit, orRow, countBits, anyBit};
 ghost use Rattle.rows.specs.Next.{nextBit, NextBelow};
 
 // The lowest set bit from a given one on, or none.
@@ -30,6 +33,16 @@ pub fn put(row: &mut [u8], i: usize)
     ensures { λ _. ⌜ now (row .exit) ≡ setBit (now (row .entry)) i ⌝ }
 {
     row[i / 8] |= 1 << (i % 8);
+}
+
+// Sets bit i, if `on`.
+pub fn put_if(row: &mut [u8], i: usize, on: bool)
+    requires { ⌜ i < 8 * length (now row) ⌝ }
+    ensures { λ _. ⌜ now (row .exit) ≡ setIf on (now (row .entry)) i ⌝ }
+{
+    if on {
+        put(row, i);
+    }
 }
 
 // Clears bit i.

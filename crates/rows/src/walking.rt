@@ -1,6 +1,6 @@
 // Walking a row: its marked numbers one after the other, and the union of the rows that it marks.
-use rows::next_below;
-use rows::or_into;
+use super::next_below;
+use super::or_into;
 ghost use Rattle.rows.specs.Bits.{bit, place};
 ghost use Rattle.rows.specs.Unions.{Adds, union};
 ghost use Rattle.rows.specs.Walks.{InRows, Gatherable, marked, rowBit};

@@ -2,9 +2,8 @@ pub mod Rising
 pub mod Records
 pub mod Written
 pub mod WrittenBytes
-pub mod Sizes
-pub mod StoreRows
 pub mod Fresh
+pub mod Stored
 pub mod Counts
 pub mod LastBytes
 pub mod SameRules

@@ -1,4 +1,3 @@
-pub mod Parts
 pub mod Fresh
 pub mod Written
 pub mod Checks

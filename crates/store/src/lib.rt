@@ -1,11 +1,12 @@
-// The store (document 01, Store): its used part, questions 10 to 14, and what occurs by its axioms.
-use layout::Shape;
+// The store (document 01, Store): questions 10 to 14, and what occurs by its axioms.
 use catalogue::Axiom;
+use layout::Shape;
+use layout::used;
+use layout::work_used;
 ghost use mathlib.Core.Path.{_≡_};
 ghost use mathlib.Core.Bool.{not};
-ghost use Prim.Native.Nat.{ℕ, _+_, _*_, _≤_};
+ghost use Prim.Native.Nat.{ℕ};
 ghost use lib.ListN.{length};
-ghost use Rattle.catalogue.specs.Header.{concepts, roles};
 ghost use Rattle.catalogue.specs.WellFormed.{WellFormed};
 ghost use Rattle.rows.specs.Bits.{bit, someBelow};
 ghost use Rattle.rules.specs.Occurrence.{occurs};
@@ -13,34 +14,6 @@ ghost use Rattle.layout.specs.Parts as parts;
 ghost use Rattle.layout.specs.Parts.{Sized, Clear, InLastByte, inForce, setFrom, spareClear};
 ghost use Rattle.store.specs.Written.{axiomCount};
 ghost use Rattle.store.specs.Checks.{storeFits, workFits, listFits, axiomsInLimit};
-
-// The bytes of n rows for each of m + k groups.
-fn groups_long(b: &[u8], k: usize) -> usize
-    requires { ⌜ WellFormed (now b) × (k ≤ 2) ⌝ }
-    ensures { λ r. ⌜ r ≡ concepts (now (b .entry)) * parts.width (now (b .entry)) * (roles (now (b .entry)) + k) ⌝ }
-{
-    let s = Shape::of(b);
-    let n = s.concepts;
-    let w = s.width;
-    let m = s.roles;
-    n * w * (m + k)
-}
-
-// The bytes of a store's used part.
-pub fn used(b: &[u8]) -> usize
-    requires { ⌜ WellFormed (now b) ⌝ }
-    ensures { λ r. ⌜ r ≡ parts.used (now (b .entry)) ⌝ }
-{
-    groups_long(b, 2)
-}
-
-// The bytes of a work space's used part.
-pub fn work_used(b: &[u8]) -> usize
-    requires { ⌜ WellFormed (now b) ⌝ }
-    ensures { λ r. ⌜ r ≡ parts.workUsed (now (b .entry)) ⌝ }
-{
-    groups_long(b, 1)
-}
 
 // 10: is a store of this length long enough?
 pub fn store_fits(b: &[u8], long: usize) -> bool

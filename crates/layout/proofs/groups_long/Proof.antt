@@ -7,7 +7,7 @@ use borrow.Author.Needs.{needs}
 use Rattle.layout.specs.declared.Shape.{Shape}
 use Rattle.layout.specs.Layout.{shapeOf}
 use Rattle.layout.specs.Parts.{width}
-use Rattle.layout.proofs.StoreSizes.{shape-table-limit, shape-roles-limit}
+use Rattle.layout.proofs.Sizes.{shape-sizes}
 use Rattle.layout.proofs.groups_long.Statement.{statement}
 use Rattle.layout.proofs.groups_long.Tie as tie
 
@@ -15,18 +15,18 @@ of-requires : tie.Need-of-requires
 of-requires c κs = search needs
 
 mul-result : tie.Need-mul-result
-mul-result c = omega (arith, shape-table-limit (c .before .before .pre .0) (c .of .ensures))
+mul-result c = omega (arith, shape-sizes (c .before .before .pre .0) (c .of .ensures) .table-limit)
 
 add-result : tie.Need-add-result
-add-result c = omega (arith, shape-roles-limit (c .before .before .pre .0) (c .of .ensures))
+add-result c = omega (arith, shape-sizes (c .before .before .pre .0) (c .of .ensures) .roles-limit)
 
 mul-result-2 : tie.Need-mul-result-2
 mul-result-2 c =
     let p = c .before .before .pre in
     let s = c .of .result in
     let k = c .before .before .args .k in
-    let small : s .roles + k ≤ 18 = omega (arith, shape-roles-limit (p .0) (c .of .ensures)) in
-    omega (arith, mul-le-mul {n₂ = 32768} {m₂ = 18} (shape-table-limit (p .0) (c .of .ensures)) small)
+    let small : s .roles + k ≤ 18 = omega (arith, shape-sizes (p .0) (c .of .ensures) .roles-limit) in
+    omega (arith, mul-le-mul {n₂ = 32768} {m₂ = 18} (shape-sizes (p .0) (c .of .ensures) .table-limit) small)
 
 returns : tie.Need-returns
 unfolding shapeOf width

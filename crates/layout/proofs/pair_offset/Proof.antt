@@ -1,10 +1,10 @@
 -- `pair_offset` meets its contract.
 use native.Mathlib.Omega.{arith}
-use Rattle.layout.proofs.Offsets.{offset-limit, shape-offset}
+use Rattle.layout.proofs.Offsets.{offset-limit}
 use borrow.Author.Needs.{needs}
 use Rattle.layout.proofs.pair_offset.Statement.{statement}
 use Rattle.layout.proofs.pair_offset.Tie as tie
-use Rattle.layout.proofs.StoreSizes.{shape-concepts}
+use Rattle.layout.proofs.Sizes.{shape-concepts, shape-offset}
 
 of-requires : tie.Need-of-requires
 of-requires c κs = search needs

@@ -1,4 +1,4 @@
--- `marking::put_if` meets its contract.
+-- `put_if` meets its contract.
 use borrow.Author.Needs.{needs}
 use mathlib.Core.Path.{sym, ap, _∙_}
 use mathlib.Core.Bool.{Bool}

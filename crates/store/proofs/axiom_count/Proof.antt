@@ -5,7 +5,7 @@ use mathlib.Core.Path.{ap, _∙_}
 use lib.ListN.{length-take}
 use borrow.Author.Needs.{needs}
 use Rattle.rows.specs.Bits.{countBits}
-use Rattle.layout.proofs.StoreSizes.{shape-table-limit}
+use Rattle.layout.proofs.Sizes.{shape-sizes}
 use Rattle.layout.proofs.StoreRows.{rows-taken, taken-long}
 use Rattle.store.proofs.Counts.{axiom-count}
 use Rattle.store.proofs.axiom_count.Statement.{statement}
@@ -15,7 +15,7 @@ of-requires : tie.Need-of-requires
 of-requires c κs = search needs
 
 mul-end : tie.Need-mul-end
-mul-end c = omega (arith, shape-table-limit (c .before .before .before .pre .sized .well-formed) (c .of .ensures))
+mul-end c = omega (arith, shape-sizes (c .before .before .before .pre .sized .well-formed) (c .of .ensures) .table-limit)
 
 slice-aggregate-count : tie.Need-slice-aggregate-count
 slice-aggregate-count c =
@@ -26,7 +26,7 @@ count-requires : tie.Need-count-requires
 count-requires c κs =
     let s = c .before .before .before .before in
     let n = c .before .of .result .concepts * c .before .of .result .width in
-    omega (arith, length-take n (s .args .store .now), shape-table-limit (s .pre .sized .well-formed) (c .before .of .ensures))
+    omega (arith, length-take n (s .args .store .now), shape-sizes (s .pre .sized .well-formed) (c .before .of .ensures) .table-limit)
 
 returns : tie.Need-returns
 returns c =

@@ -9,7 +9,8 @@ use Rattle.rules.specs.Occurrence.{occurs}
 use Rattle.layout.specs.Layout.{shapeOf, table}
 use Rattle.occurrence.specs.Marking.{InTable}
 use Rattle.layout.specs.Parts.{width, axiomRows, inForce, Clear}
-use Rattle.layout.proofs.StoreSizes.{table-long, width-fits, shape-table-limit}
+use Rattle.layout.proofs.StoreSizes.{table-long, width-fits}
+use Rattle.layout.proofs.Sizes.{shape-sizes}
 use Rattle.layout.proofs.StoreRows.{rows-taken, rows-long, taken-long, in-force-range}
 use Rattle.store.proofs.mark_occurring.Statement.{statement}
 use Rattle.store.proofs.mark_occurring.Tie as tie
@@ -27,7 +28,7 @@ of-requires : tie.Need-of-requires
 of-requires c κs = search needs
 
 mul-end : tie.Need-mul-end
-mul-end c = omega (arith, shape-table-limit (c .before .before .before .before .pre .0 .sized .well-formed) (c .of .ensures))
+mul-end c = omega (arith, shape-sizes (c .before .before .before .before .pre .0 .sized .well-formed) (c .of .ensures) .table-limit)
 
 slice-aggregate-occurs : tie.Need-slice-aggregate-occurs
 slice-aggregate-occurs c =

@@ -8,7 +8,8 @@ use borrow.Author.Needs.{needs}
 use Rattle.catalogue.specs.Header.{concepts}
 use Rattle.rows.specs.Bits.{someBelow}
 use Rattle.layout.specs.Parts.{width, setFrom, spareClear}
-use Rattle.layout.proofs.StoreSizes.{used-rows, width-fits, rows-limit, shape-roles-limit, shape-rows, shape-concepts, shape-width}
+use Rattle.layout.proofs.StoreSizes.{used-rows, width-fits, rows-limit}
+use Rattle.layout.proofs.Sizes.{shape-sizes, shape-rows, shape-concepts, shape-width}
 use Rattle.layout.proofs.StoreRows.{no-spare}
 use Rattle.store.proofs.spare_clear.Statement.{statement}
 use Rattle.store.proofs.spare_clear.Tie as tie
@@ -24,7 +25,7 @@ returns c =
     sym (no-spare b (s .args .store .now) (omega (arith, c .if1 .taken, shape-concepts b e)))
 
 add-last-bytes-clear : tie.Need-add-last-bytes-clear
-add-last-bytes-clear c = omega (arith, shape-roles-limit (c .before .before .before .before .pre .well-formed) (c .before .of .ensures))
+add-last-bytes-clear c = omega (arith, shape-sizes (c .before .before .before .before .pre .well-formed) (c .before .of .ensures) .roles-limit)
 
 mul-last-bytes-clear : tie.Need-mul-last-bytes-clear
 mul-last-bytes-clear c =

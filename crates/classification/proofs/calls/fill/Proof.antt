@@ -13,7 +13,8 @@ use Rattle.rules.specs.Counts.{Size, Pairs, Links}
 use Rattle.layout.specs.Layout.{table, blockLength, tableLength}
 use Rattle.layout.proofs.StoreSizes.{work-is-block}
 use Rattle.closing.specs.Closing.{Closes}
-use Rattle.closing.proofs.LeastSet.{shape-bounds, prefix-long, front-of}
+use Rattle.rows.proofs.RowParts.{prefix-long, front-of}
+use Rattle.layout.proofs.Sizes.{sizes}
 use Rattle.classification.proofs.Filled.{rowsOf, shaped, catalogue-table, part-sizes, store-filled}
 use borrow.Author.Needs.{needs}
 use Rattle.classification.proofs.calls.fill.Statement.{statement}
@@ -26,13 +27,13 @@ mul-pairs : tie.Need-mul-pairs
 mul-pairs c =
     let entry = c .before .before .before .before .before in
     let of-gave = c .before .of in
-    omega (arith, shape-bounds (shaped (entry .pre) (of-gave .ensures)) .table)
+    omega (arith, sizes (shaped (entry .pre) (of-gave .ensures)) .table-limit)
 
 add-links : tie.Need-add-links
 add-links c =
     let entry = c .before .before .before .before .before in
     let of-gave = c .before .of in
-    omega (arith, shape-bounds (shaped (entry .pre) (of-gave .ensures)) .table)
+    omega (arith, sizes (shaped (entry .pre) (of-gave .ensures)) .table-limit)
 
 table-requires : tie.Need-table-requires
 table-requires c κs = search needs
@@ -42,14 +43,14 @@ array-borrow-prefix-axioms c =
     let table-gave = c .table in
     let entry = c .before .before .before .before .before .before in
     let of-gave = c .before .before .of in
-    omega (arith, table-gave .ensures .long, shape-bounds (shaped (entry .pre) (of-gave .ensures)) .table)
+    omega (arith, table-gave .ensures .long, sizes (shaped (entry .pre) (of-gave .ensures)) .table-limit)
 
 slice-aggregate-axiom-rows : tie.Need-slice-aggregate-axiom-rows
 slice-aggregate-axiom-rows c =
     let of-gave = c .before .before .before .of in
     let table-gave = c .before .table in
     let entry = c .before .before .before .before .before .before .before in
-    prefix-long (rowsOf (of-gave .result)) 32768 (table-gave .result) (table-gave .ensures .long) (shape-bounds (shaped (entry .pre) (of-gave .ensures)) .table)
+    prefix-long (rowsOf (of-gave .result)) 32768 (table-gave .result) (table-gave .ensures .long) (sizes (shaped (entry .pre) (of-gave .ensures)) .table-limit)
 
 axiom-rows-requires : tie.Need-axiom-rows-requires
 unfolding tableLength
@@ -57,7 +58,7 @@ axiom-rows-requires c κs =
     let entry = c .before .before .before .before .before .before .before in
     let of-gave = c .before .before .before .of in
     let table-gave = c .before .table in
-    (shaped (entry .pre) (of-gave .ensures), sym (prefix-long (rowsOf (of-gave .result)) 32768 (table-gave .result) (table-gave .ensures .long) (shape-bounds (shaped (entry .pre) (of-gave .ensures)) .table)))
+    (shaped (entry .pre) (of-gave .ensures), sym (prefix-long (rowsOf (of-gave .result)) 32768 (table-gave .result) (table-gave .ensures .long) (sizes (shaped (entry .pre) (of-gave .ensures)) .table-limit)))
 
 array-share-prefix-axioms : tie.Need-array-share-prefix-axioms
 array-share-prefix-axioms c =
@@ -65,7 +66,7 @@ array-share-prefix-axioms c =
     let of-gave = c .before .before .before .before .before .of in
     let table-gave = c .before .before .before .table in
     let entry = c .before .before .before .before .before .before .before .before .before in
-    let long : length (axiom-rows-gave .last .1 .1 .0) ≡ (rowsOf (of-gave .result)) = (axiom-rows-gave .kept .1 .1 .0 ∙ sym (prefix-long (rowsOf (of-gave .result)) 32768 (table-gave .result) (table-gave .ensures .long) (shape-bounds (shaped (entry .pre) (of-gave .ensures)) .table))) in
+    let long : length (axiom-rows-gave .last .1 .1 .0) ≡ (rowsOf (of-gave .result)) = (axiom-rows-gave .kept .1 .1 .0 ∙ sym (prefix-long (rowsOf (of-gave .result)) 32768 (table-gave .result) (table-gave .ensures .long) (sizes (shaped (entry .pre) (of-gave .ensures)) .table-limit))) in
     omega (arith, length-append (axiom-rows-gave .last .1 .1 .0) (drop (rowsOf (of-gave .result)) (table-gave .result)))
 
 slice-aggregate-copy : tie.Need-slice-aggregate-copy
@@ -74,7 +75,7 @@ slice-aggregate-copy c =
     let axiom-rows-gave = c .before .before .axiom-rows in
     let table-gave = c .before .before .before .before .table in
     let entry = c .before .before .before .before .before .before .before .before .before .before in
-    sym (ap length (front-of (rowsOf (of-gave .result)) 32768 (axiom-rows-gave .last .1 .1 .0) (table-gave .result) (axiom-rows-gave .kept .1 .1 .0) (table-gave .ensures .long) (shape-bounds (shaped (entry .pre) (of-gave .ensures)) .table)) ∙ (axiom-rows-gave .kept .1 .1 .0 ∙ sym (prefix-long (rowsOf (of-gave .result)) 32768 (table-gave .result) (table-gave .ensures .long) (shape-bounds (shaped (entry .pre) (of-gave .ensures)) .table))))
+    sym (ap length (front-of (rowsOf (of-gave .result)) 32768 (axiom-rows-gave .last .1 .1 .0) (table-gave .result) (axiom-rows-gave .kept .1 .1 .0) (table-gave .ensures .long) (sizes (shaped (entry .pre) (of-gave .ensures)) .table-limit)) ∙ (axiom-rows-gave .kept .1 .1 .0 ∙ sym (prefix-long (rowsOf (of-gave .result)) 32768 (table-gave .result) (table-gave .ensures .long) (sizes (shaped (entry .pre) (of-gave .ensures)) .table-limit))))
 
 copy-requires : tie.Need-copy-requires
 copy-requires c κs =
@@ -82,7 +83,7 @@ copy-requires c κs =
     let axiom-rows-gave = c .before .before .before .axiom-rows in
     let table-gave = c .before .before .before .before .before .table in
     let entry = c .before .before .before .before .before .before .before .before .before .before .before in
-    let long : length (take (rowsOf (of-gave .result)) ((axiom-rows-gave .last .1 .1 .0) ++ drop (rowsOf (of-gave .result)) (table-gave .result))) ≡ (rowsOf (of-gave .result)) = ap length (front-of (rowsOf (of-gave .result)) 32768 (axiom-rows-gave .last .1 .1 .0) (table-gave .result) (axiom-rows-gave .kept .1 .1 .0) (table-gave .ensures .long) (shape-bounds (shaped (entry .pre) (of-gave .ensures)) .table)) ∙ (axiom-rows-gave .kept .1 .1 .0 ∙ sym (prefix-long (rowsOf (of-gave .result)) 32768 (table-gave .result) (table-gave .ensures .long) (shape-bounds (shaped (entry .pre) (of-gave .ensures)) .table))) in
+    let long : length (take (rowsOf (of-gave .result)) ((axiom-rows-gave .last .1 .1 .0) ++ drop (rowsOf (of-gave .result)) (table-gave .result))) ≡ (rowsOf (of-gave .result)) = ap length (front-of (rowsOf (of-gave .result)) 32768 (axiom-rows-gave .last .1 .1 .0) (table-gave .result) (axiom-rows-gave .kept .1 .1 .0) (table-gave .ensures .long) (sizes (shaped (entry .pre) (of-gave .ensures)) .table-limit)) ∙ (axiom-rows-gave .kept .1 .1 .0 ∙ sym (prefix-long (rowsOf (of-gave .result)) 32768 (table-gave .result) (table-gave .ensures .long) (sizes (shaped (entry .pre) (of-gave .ensures)) .table-limit))) in
     let sizes = part-sizes (entry .args .b .now) (entry .args .store .now) (of-gave .result) (of-gave .ensures) (entry .pre .well-formed) (entry .pre .store-long) in
     omega (arith, sizes .whole)
 
@@ -92,7 +93,7 @@ array-share-prefix-axioms-2 c =
     let of-gave = c .before .before .before .before .before .before .before .before .before .before .of in
     let table-gave = c .before .before .before .before .before .before .before .before .table in
     let entry = c .before .before .before .before .before .before .before .before .before .before .before .before .before .before in
-    let long : length (axiom-rows-gave .last .1 .1 .0) ≡ (rowsOf (of-gave .result)) = (axiom-rows-gave .kept .1 .1 .0 ∙ sym (prefix-long (rowsOf (of-gave .result)) 32768 (table-gave .result) (table-gave .ensures .long) (shape-bounds (shaped (entry .pre) (of-gave .ensures)) .table))) in
+    let long : length (axiom-rows-gave .last .1 .1 .0) ≡ (rowsOf (of-gave .result)) = (axiom-rows-gave .kept .1 .1 .0 ∙ sym (prefix-long (rowsOf (of-gave .result)) 32768 (table-gave .result) (table-gave .ensures .long) (sizes (shaped (entry .pre) (of-gave .ensures)) .table-limit))) in
     omega (arith, length-append (axiom-rows-gave .last .1 .1 .0) (drop (rowsOf (of-gave .result)) (table-gave .result)))
 
 slice-aggregate-run : tie.Need-slice-aggregate-run
@@ -101,7 +102,7 @@ slice-aggregate-run c =
     let axiom-rows-gave = c .before .before .before .before .before .before .before .axiom-rows in
     let table-gave = c .before .before .before .before .before .before .before .before .before .table in
     let entry = c .before .before .before .before .before .before .before .before .before .before .before .before .before .before .before in
-    sym (ap length (front-of (rowsOf (of-gave .result)) 32768 (axiom-rows-gave .last .1 .1 .0) (table-gave .result) (axiom-rows-gave .kept .1 .1 .0) (table-gave .ensures .long) (shape-bounds (shaped (entry .pre) (of-gave .ensures)) .table)) ∙ (axiom-rows-gave .kept .1 .1 .0 ∙ sym (prefix-long (rowsOf (of-gave .result)) 32768 (table-gave .result) (table-gave .ensures .long) (shape-bounds (shaped (entry .pre) (of-gave .ensures)) .table))))
+    sym (ap length (front-of (rowsOf (of-gave .result)) 32768 (axiom-rows-gave .last .1 .1 .0) (table-gave .result) (axiom-rows-gave .kept .1 .1 .0) (table-gave .ensures .long) (sizes (shaped (entry .pre) (of-gave .ensures)) .table-limit)) ∙ (axiom-rows-gave .kept .1 .1 .0 ∙ sym (prefix-long (rowsOf (of-gave .result)) 32768 (table-gave .result) (table-gave .ensures .long) (sizes (shaped (entry .pre) (of-gave .ensures)) .table-limit))))
 
 sub-run : tie.Need-sub-run
 sub-run c =
@@ -129,14 +130,14 @@ run-requires c κs =
     let b = entry .args .b .now in
     let store = entry .args .store .now in
     let sizes = part-sizes (entry .args .b .now) (entry .args .store .now) (of-gave .result) (of-gave .ensures) (entry .pre .well-formed) (entry .pre .store-long) in
-    let same : take (rowsOf (of-gave .result)) ((axiom-rows-gave .last .1 .1 .0) ++ drop (rowsOf (of-gave .result)) (table-gave .result)) ≡ (axiom-rows-gave .last .1 .1 .0) = front-of (rowsOf (of-gave .result)) 32768 (axiom-rows-gave .last .1 .1 .0) (table-gave .result) (axiom-rows-gave .kept .1 .1 .0) (table-gave .ensures .long) (shape-bounds (shaped (entry .pre) (of-gave .ensures)) .table) in
+    let same : take (rowsOf (of-gave .result)) ((axiom-rows-gave .last .1 .1 .0) ++ drop (rowsOf (of-gave .result)) (table-gave .result)) ≡ (axiom-rows-gave .last .1 .1 .0) = front-of (rowsOf (of-gave .result)) 32768 (axiom-rows-gave .last .1 .1 .0) (table-gave .result) (axiom-rows-gave .kept .1 .1 .0) (table-gave .ensures .long) (sizes (shaped (entry .pre) (of-gave .ensures)) .table-limit) in
     let marked = catalogue-table (entry .args .b .now) (of-gave .result) (rowsOf (of-gave .result)) (table-gave .result) (axiom-rows-gave .last .1 .1 .0) (table-gave .ensures .clear) (axiom-rows-gave .ensures) in
     let middle : length (midOf (rowsOf (of-gave .result)) (length store - (rowsOf (of-gave .result))) (copy-gave .last .1 .0)) ≡ blockLength (of-gave .result) =
     mid-len (rowsOf (of-gave .result)) (length store) (copy-gave .last .1 .0) (omega (arith, copy-gave .kept .1 .0))
     ∙ (let rest : length store - (rowsOf (of-gave .result)) ≡ blockLength (of-gave .result) = omega (arith, sizes .whole) in rest) in
     record {
       shaped = shaped (entry .pre) (of-gave .ensures);
-      axioms-long = ap length same ∙ (axiom-rows-gave .kept .1 .1 .0 ∙ sym (prefix-long (rowsOf (of-gave .result)) 32768 (table-gave .result) (table-gave .ensures .long) (shape-bounds (shaped (entry .pre) (of-gave .ensures)) .table)));
+      axioms-long = ap length same ∙ (axiom-rows-gave .kept .1 .1 .0 ∙ sym (prefix-long (rowsOf (of-gave .result)) 32768 (table-gave .result) (table-gave .ensures .long) (sizes (shaped (entry .pre) (of-gave .ensures)) .table-limit)));
       range = λ x y h. catalogue-in-range b (entry .pre .well-formed) x y (sym (marked x y) ∙ ap (λ (l : List ℕ). table (of-gave .result) l x y) (sym same) ∙ h);
       set-long = middle;
       work-long = entry .pre .work-long ∙ work-is-block b ∙ ap blockLength (sym (of-gave .ensures));
@@ -223,8 +224,8 @@ returns c =
     let work = run-gave .last .1 .1 .1 .1 .0 in
     let sizes = part-sizes (entry .args .b .now) (entry .args .store .now) (of-gave .result) (of-gave .ensures) (entry .pre .well-formed) (entry .pre .store-long) in
     let lent = take (rowsOf (of-gave .result)) ((axiom-rows-gave .last .1 .1 .0) ++ drop (rowsOf (of-gave .result)) (table-gave .result)) in
-    let same : lent ≡ (axiom-rows-gave .last .1 .1 .0) = front-of (rowsOf (of-gave .result)) 32768 (axiom-rows-gave .last .1 .1 .0) (table-gave .result) (axiom-rows-gave .kept .1 .1 .0) (table-gave .ensures .long) (shape-bounds (shaped (entry .pre) (of-gave .ensures)) .table) in
-    let long : length lent ≡ (rowsOf (of-gave .result)) = ap length same ∙ (axiom-rows-gave .kept .1 .1 .0 ∙ sym (prefix-long (rowsOf (of-gave .result)) 32768 (table-gave .result) (table-gave .ensures .long) (shape-bounds (shaped (entry .pre) (of-gave .ensures)) .table))) in
+    let same : lent ≡ (axiom-rows-gave .last .1 .1 .0) = front-of (rowsOf (of-gave .result)) 32768 (axiom-rows-gave .last .1 .1 .0) (table-gave .result) (axiom-rows-gave .kept .1 .1 .0) (table-gave .ensures .long) (sizes (shaped (entry .pre) (of-gave .ensures)) .table-limit) in
+    let long : length lent ≡ (rowsOf (of-gave .result)) = ap length same ∙ (axiom-rows-gave .kept .1 .1 .0 ∙ sym (prefix-long (rowsOf (of-gave .result)) 32768 (table-gave .result) (table-gave .ensures .long) (sizes (shaped (entry .pre) (of-gave .ensures)) .table-limit))) in
     let copied : take (length lent) lent ++ drop (length lent) store ≡ (axiom-rows-gave .last .1 .1 .0) ++ drop (rowsOf (of-gave .result)) store = ap₂ _++_ (take-length lent ∙ same) (ap (λ (k : ℕ). drop k store) long) in
     let middle : length (midOf (rowsOf (of-gave .result)) (length store - (rowsOf (of-gave .result))) (copy-gave .last .1 .0)) ≡ blockLength (of-gave .result) =
     mid-len (rowsOf (of-gave .result)) (length store) (copy-gave .last .1 .0) (omega (arith, copy-gave .kept .1 .0))
@@ -234,7 +235,7 @@ returns c =
     (record {
       well-formed = entry .pre .well-formed;
       long = entry .pre .store-long;
-      rows-long = (axiom-rows-gave .kept .1 .1 .0 ∙ sym (prefix-long (rowsOf (of-gave .result)) 32768 (table-gave .result) (table-gave .ensures .long) (shape-bounds (shaped (entry .pre) (of-gave .ensures)) .table)));
+      rows-long = (axiom-rows-gave .kept .1 .1 .0 ∙ sym (prefix-long (rowsOf (of-gave .result)) 32768 (table-gave .result) (table-gave .ensures .long) (sizes (shaped (entry .pre) (of-gave .ensures)) .table-limit)));
       copied-is = copy-gave .ensures .1 ∙ copied;
       set-long = run-gave .kept .1 .1 .1 .0 ∙ middle;
       filled-is = refl;

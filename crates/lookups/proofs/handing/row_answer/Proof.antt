@@ -11,7 +11,7 @@ use Rattle.lookups.proofs.Answered.{row-accepted, row-refused}
 use borrow.Author.Needs.{needs}
 use Rattle.lookups.proofs.handing.row_answer.Statement.{statement}
 use Rattle.lookups.proofs.handing.row_answer.Tie as tie
-use Rattle.layout.proofs.StoreSizes.{shape-width}
+use Rattle.layout.proofs.Sizes.{shape-width}
 
 -- Where the questions accept.
 accepts : (c : tie.After-enum-told) → readChecks (now (c .before .before .before .before .before .args .b)) (c .before .before .before .before .before .args .c ∷ []) (now (c .before .before .before .before .before .args .store)) ≡ accepted

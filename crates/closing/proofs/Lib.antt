@@ -1,0 +1,4 @@
+pub mod Seeding
+pub mod Concluding
+pub mod Seeded
+pub mod LeastSet

@@ -1,0 +1,7 @@
+pub mod Sizes
+pub mod Places
+pub mod BlockRows
+pub mod StoreSizes
+pub mod StoreRows
+pub mod Offsets
+pub mod ZeroBlocks
