@@ -1,68 +1,62 @@
 // The body of the listing program (document 01, Examples), for the programs that run it.
 use classification::Classified;
 use classification::classify;
+use libc::STDERR_FILENO;
 use libc::STDIN_FILENO;
 use libc::STDOUT_FILENO;
+use text::listing_text;
 use text::refusal_text;
-use text::row_text;
-use text::summary_text;
-ghost use Prim.Native.Nat.{_<_};
-ghost use Rattle.catalogue.specs.Header.{concepts};
-ghost use Rattle.layout.specs.Parts.{Sized};
+ghost use mathlib.Core.Path.{_≡_};
+ghost use Prim.Native.Nat.{_≤_};
+ghost use lib.ListN.{length};
+ghost use Rattle.text.specs.Text.{Appended};
+ghost use Rattle.listings.specs.Program.{programText};
 
-// Writes the line of a refusal.
-fn print_refusal(number: usize) {
-    let mut out = io::buffer();
-    let end = refusal_text(&mut out, number);
-    io::write_all(STDOUT_FILENO, &out[..end]);
-}
-
-// Writes the line of counts.
-fn print_summary(n: usize, a: usize, pairs: usize, links: usize) {
-    let mut out = io::buffer();
-    let end = summary_text(&mut out, n, a, pairs, links);
-    io::write_all(STDOUT_FILENO, &out[..end]);
-}
-
-// Writes the lines of one concept.
-fn print_row(b: &[u8], c: usize, store: &[u8])
-    requires { ⌜ Sized (now b) (now store) × (c < concepts (now b)) ⌝ }
+// The program's text, at the start of a buffer that has room for the longest.
+fn program_text(input: &[u8], store: &mut [u8], work: &mut [u8], out: &mut [u8]) -> usize
+    requires { ⌜ (length (now store) ≡ 65536) × (length (now work) ≡ 65536) × (2097152 ≤ length (now out)) ⌝ }
+    ensures { λ r. ⌜ Appended (programText (now (input .entry))) (now (out .entry)) 0 r (now (out .exit)) ⌝ }
 {
-    let mut out = io::buffer();
-    let end = row_text(b, c, store, &mut out);
-    io::write_all(STDOUT_FILENO, &out[..end]);
-}
-
-// Writes the lines of every concept.
-fn print_rows(b: &[u8], store: &[u8])
-    requires { ⌜ Sized (now b) (now store) ⌝ }
-{
-    let n = catalogue::concepts(b);
-    let mut c = 0;
-    while c < n {
-        print_row(b, c, store);
-        c += 1;
-    }
-}
-
-// Classifies a catalogue into a store, and writes what was found, or the refusal.
-fn list(b: &[u8], store: &mut [u8], work: &mut [u8]) {
-    let answer = classify(b, store, work);
+    let answer = classify(input, store, work);
     match answer {
-        Classified::Refused(number, _) => print_refusal(number),
-        Classified::Done(pairs, links) => {
-            print_summary(catalogue::concepts(b), catalogue::axioms(b), pairs, links);
-            print_rows(b, store);
-        }
+        Classified::Refused(number, _) => refusal_text(out, number),
+        Classified::Done(pairs, links) => listing_text(input, store, pairs, links, out),
     }
 }
 
-// Classifies the catalogue on standard input, and writes its counts and each pair of different atomic concepts. An input above 65,535 bytes fills the
-// buffer, and no total equals 65,536: question 2 refuses it.
-pub fn run() {
-    let mut input = io::large_buffer();
+// Room for the longest text.
+fn text_buffer() -> [u8; 2097152]
+    ensures { λ r. ⌜ 2097152 ≡ length r ⌝ }
+{
+    [0u8; 2097152]
+}
+
+// Writes the program's text of an input, or says on standard error that it could not.
+fn list(input: &[u8]) {
     let mut store = io::large_buffer();
     let mut work = io::large_buffer();
+    let mut out = text_buffer();
+    let end = program_text(input, &mut store, &mut work, &mut out);
+    if !io::write_all(STDOUT_FILENO, &out[..end]) {
+        io::write_all(STDERR_FILENO, b"listing: the output could not be written\n");
+    }
+}
+
+// Whether standard input has ended: a read then gives nothing, and one that fails gives -1.
+fn input_ended() -> bool {
+    let mut more = [0u8; 1];
+    libc::read(STDIN_FILENO, &mut more) == 0
+}
+
+// Lists the catalogue on standard input, of which it reads 65,536 bytes at most: a longer input is refused by these alone.
+pub fn run() {
+    let mut input = io::large_buffer();
     let n = io::read_full(STDIN_FILENO, &mut input);
-    list(&input[..n], &mut store, &mut work);
+    if n < 65536 {
+        if !input_ended() {
+            io::write_all(STDERR_FILENO, b"listing: the input could not be read\n");
+            return;
+        }
+    }
+    list(&input[..n]);
 }

@@ -10,7 +10,7 @@ use lib.Dec.{ltb}
 use lib.ListN.{length, length-append}
 use Rattle.booleans.proofs.Booleans.{by-bool}
 use Rattle.io.specs.Digits.{digits, glyph, Fewest}
-use Rattle.text.specs.Text.{digitsOf, decimal, pairLine, newline}
+use Rattle.text.specs.Text.{digitsOf, decimal, summary, pairLine, newline}
 
 glyph-digit : (d : ℕ) → d < 10 → glyph d ≡ 48 + d
 glyph-digit d h = ap (λ (t : Bool). cond t (48 + d) (87 + d)) (lt-ltb d 10 h)
@@ -79,3 +79,13 @@ unfolding pairLine newline
 length-pairLine c d =
     let line : List ℕ = decimal c ++ ((32 ∷ []) ++ decimal d) in
     omega (arith, length-append line (10 ∷ []), length-append (decimal c) ((32 ∷ []) ++ decimal d))
+
+-- A line of counts, each a machine word, has at most 112 bytes.
+pub summary-most : (n a pairs links : ℕ) → n < 2 ^ 64 → a < 2 ^ 64 → pairs < 2 ^ 64 → links < 2 ^ 64 → length (summary n a pairs links) ≤ 112
+unfolding summary newline
+summary-most n a pairs links hn ha hp hl =
+    let n′ = length-decimal-word n hn in
+    let a′ = length-decimal-word a ha in
+    let p′ = length-decimal-word pairs hp in
+    let l′ = length-decimal-word links hl in
+    simp length-append (omega arith)

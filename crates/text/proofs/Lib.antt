@@ -1,3 +1,3 @@
 pub mod Appending
 pub mod Decimals
-pub mod LinesBelow
+pub mod Listing

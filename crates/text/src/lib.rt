@@ -1,7 +1,7 @@
 // The listing program's texts, written into a buffer (document 01, Examples).
-pub mod lines; // lines.rt: the lines of a concept's pairs
+pub mod lines; // lines.rt: the lines of pairs, and the text of an accepted catalogue
 
-pub use lines::row_text;
+pub use lines::listing_text;
 ghost use mathlib.Core.List.{_++_};
 ghost use Prim.Native.Nat.{_+_, _≤_};
 ghost use lib.ListN.{length};

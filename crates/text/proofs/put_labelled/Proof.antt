@@ -1,17 +1,12 @@
 -- `put_labelled` meets its contract.
-use Prim.Native.Nat.{ℕ, _+_, _≤_}
 use native.Mathlib.Omega.{arith}
-use mathlib.Core.Path.{_≡_, sym, ap, subst, _∙_}
+use mathlib.Core.Path.{ap}
 use lib.ListN.{length, length-append}
 use Rattle.text.specs.Text.{decimal}
 use Rattle.text.proofs.Appending.{appended-more}
 use borrow.Author.Needs.{needs}
 use Rattle.text.proofs.put_labelled.Statement.{statement}
 use Rattle.text.proofs.put_labelled.Tie as tie
-use Rattle.text.proofs.put_labelled.Reads as reads
-use Rattle.text.proofs.put_labelled.Lts as lts
-use Rattle.text.proofs.put_decimal.Reads as put-decimal-reads
-use Rattle.text.proofs.put_text.Reads as put-text-reads
 
 put-text-requires : tie.Need-put-text-requires
 put-text-requires c κs =

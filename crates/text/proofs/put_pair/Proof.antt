@@ -1,7 +1,7 @@
 -- `put_pair` meets its contract.
-use Prim.Native.Nat.{ℕ, _+_, _≤_}
+use Prim.Native.Nat.{_≤_}
 use native.Mathlib.Omega.{arith}
-use mathlib.Core.Path.{_≡_, sym, ap, subst, _∙_}
+use mathlib.Core.Path.{ap}
 use lib.ListN.{length}
 use Rattle.text.specs.Text.{pairLine, newline}
 use Rattle.text.proofs.Appending.{appended-more}
@@ -9,11 +9,6 @@ use Rattle.text.proofs.Decimals.{length-pairLine}
 use borrow.Author.Needs.{needs}
 use Rattle.text.proofs.put_pair.Statement.{statement}
 use Rattle.text.proofs.put_pair.Tie as tie
-use Rattle.text.proofs.put_pair.Reads as reads
-use Rattle.text.proofs.put_pair.Lts as lts
-use Rattle.text.proofs.put_decimal.Reads as put-decimal-reads
-use Rattle.text.proofs.put_labelled.Reads as put-labelled-reads
-use Rattle.text.proofs.put_text.Reads as put-text-reads
 
 put-decimal-requires : tie.Need-put-decimal-requires
 put-decimal-requires c κs =

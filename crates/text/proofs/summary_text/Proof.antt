@@ -1,7 +1,7 @@
 -- `summary_text` meets its contract.
-use Prim.Native.Nat.{ℕ, _+_, _≤_}
+use Prim.Native.Nat.{_≤_}
 use native.Mathlib.Omega.{arith}
-use mathlib.Core.Path.{_≡_, sym, ap, subst, _∙_}
+use mathlib.Core.Path.{ap}
 use lib.ListN.{length}
 use Rattle.text.specs.Text.{summary, newline}
 use Rattle.text.proofs.Appending.{appended-more}
@@ -9,10 +9,6 @@ use Rattle.text.proofs.Decimals.{length-decimal-word}
 use borrow.Author.Needs.{needs}
 use Rattle.text.proofs.summary_text.Statement.{statement}
 use Rattle.text.proofs.summary_text.Tie as tie
-use Rattle.text.proofs.summary_text.Reads as reads
-use Rattle.text.proofs.summary_text.Lts as lts
-use Rattle.text.proofs.put_labelled.Reads as put-labelled-reads
-use Rattle.text.proofs.put_text.Reads as put-text-reads
 
 slice-aggregate-put-labelled : tie.Need-slice-aggregate-put-labelled
 slice-aggregate-put-labelled c = search needs

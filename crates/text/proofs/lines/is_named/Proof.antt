@@ -7,10 +7,6 @@ use Rattle.text.specs.Lines.{named}
 use borrow.Author.Needs.{needs}
 use Rattle.text.proofs.lines.is_named.Statement.{statement}
 use Rattle.text.proofs.lines.is_named.Tie as tie
-use Rattle.text.proofs.lines.is_named.Reads as reads
-use Rattle.text.proofs.lines.is_named.Lts as lts
-use Rattle.catalogue.proofs.records.Concept.at.Reads as at-reads
-use Rattle.lookups.proofs.pairs.has_pair.Reads as has-pair-reads
 
 at-requires : tie.Need-at-requires
 at-requires c κs = search needs

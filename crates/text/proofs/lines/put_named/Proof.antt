@@ -6,14 +6,10 @@ use mathlib.Core.List.{[]}
 use denote.Ref.{now}
 use Rattle.text.specs.Text.{pairLine, Appended}
 use Rattle.text.proofs.Appending.{appended-nothing}
-use Rattle.text.proofs.LinesBelow.{pairLine-most}
+use Rattle.text.proofs.Listing.{pairLine-most}
 use borrow.Author.Needs.{needs}
 use Rattle.text.proofs.lines.put_named.Statement.{statement}
 use Rattle.text.proofs.lines.put_named.Tie as tie
-use Rattle.text.proofs.lines.put_named.Reads as reads
-use Rattle.text.proofs.lines.put_named.Lts as lts
-use Rattle.text.proofs.lines.is_named.Reads as is-named-reads
-use Rattle.text.proofs.put_pair.Reads as put-pair-reads
 
 is-named-requires : tie.Need-is-named-requires
 is-named-requires c κs = search needs
