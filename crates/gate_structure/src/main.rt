@@ -127,13 +127,12 @@ fn report_contains(b: &[u8], i: usize, j: usize) {
         Verdict::Accepted => {
             let n = catalogue::concepts(b);
             if i < n {
-                if j < n {
-                    say(i, b" contains ", j);
-                    if structure::contains(b, i, j) {
-                        io::write_all(STDOUT_FILENO, b": yes\n");
-                    } else {
-                        io::write_all(STDOUT_FILENO, b": no\n");
-                    }
+                say(i, b" contains ", j);
+                let mut row = [0u8; Concept::MAX / 8];
+                if structure::contains(b, i, j, &mut row) {
+                    io::write_all(STDOUT_FILENO, b": yes\n");
+                } else {
+                    io::write_all(STDOUT_FILENO, b": no\n");
                 }
             }
         }

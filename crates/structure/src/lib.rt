@@ -1,5 +1,5 @@
 // Parts of concepts, and reach of roles.
-pub mod parts; // parts.rt: marking a concept with its parts, and containment
+pub mod parts; // parts.rt: marking what the parts of a concept contain, and containment
 pub mod roles; // roles.rt: the square of role reach, and its one reader
 
 pub use parts::contains;

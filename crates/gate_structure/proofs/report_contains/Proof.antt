@@ -1,4 +1,5 @@
 -- `structure_check::report_contains` meets its contract: an accepted catalogue is well-formed.
+use native.Mathlib.Omega.{arith}
 use Rattle.catalogue.specs.WellFormed.{WellFormed}
 use Rattle.catalogue.proofs.Bounds.{header-within}
 use Rattle.structure.proofs.Acceptance.{verdict-well-formed}
@@ -25,10 +26,13 @@ slice-aggregate-say c = search needs
 say-requires : tie.Need-say-requires
 say-requires c κs = search needs
 
+slice-aggregate-contains : tie.Need-slice-aggregate-contains
+slice-aggregate-contains c = search needs
+
 contains-requires : tie.Need-contains-requires
 contains-requires c κs =
-    let n = c .before .before .before .before .concepts .ensures in
-    (well-formed (c .before .before .before .before .before), (rw n at (c .before .before .before .if1 .taken), rw n at (c .before .before .if2 .taken)))
+    let w = well-formed (c .before .before .before .before .before) in
+    (w, omega (arith, c .before .before .before .before .concepts .ensures, c .before .before .before .if1 .taken), w .concepts-limit)
 
 slice-aggregate-write-all : tie.Need-slice-aggregate-write-all
 slice-aggregate-write-all c = search needs
@@ -60,9 +64,6 @@ returns-3 c = search needs
 returns-4 : tie.Need-returns-4
 returns-4 c = search needs
 
-returns-5 : tie.Need-returns-5
-returns-5 c = search needs
-
 pub report-contains-spec : {M : Type 1} → statement M
 report-contains-spec =
     tie.close
@@ -72,6 +73,7 @@ report-contains-spec =
     concepts-requires
     slice-aggregate-say
     say-requires
+    slice-aggregate-contains
     contains-requires
     slice-aggregate-write-all
     write-all-requires
@@ -82,5 +84,4 @@ report-contains-spec =
     returns
     returns-2
     returns-3
-    returns-4
-    returns-5)
+    returns-4)
