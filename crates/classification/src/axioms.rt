@@ -1,6 +1,6 @@
 // The catalogue's axioms as a table of rows, by left side.
-use layout::Shape;
 use catalogue::Axiom;
+use layout::Shape;
 use rows::put_in_row;
 ghost use mathlib.Core.Path.{_≡_};
 ghost use lib.ListN.{length};

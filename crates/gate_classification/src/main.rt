@@ -13,9 +13,9 @@ use cases::short_at;
 use checksum::fnv1a;
 use classification::Classified;
 use classification::classify;
+use layout::used;
 use libc::STDIN_FILENO;
 use libc::STDOUT_FILENO;
-use layout::used;
 
 // Writes a word and the checksum of some bytes.
 fn say_checksum(word: &[u8], bytes: &[u8]) {

@@ -7,8 +7,8 @@ ghost use Rattle.catalogue.specs.Verdicts.{outcomeOf};
 ghost use Rattle.rules.specs.Occurrence.{occurs};
 ghost use Rattle.layout.specs.Parts.{Sized, Clear, width, inForce};
 ghost use Rattle.lookups.specs.Checks.{every, openChecks, contentChecks, readChecks, listChecks};
-use layout::Shape;
 use catalogue::Verdict;
+use layout::Shape;
 
 // Do both concepts occur by the axioms in force? The marks are computed in a row, whatever it held.
 fn both_marked(b: &[u8], store: &[u8], row: &mut [u8], c: usize, d: usize) -> bool

@@ -2,7 +2,6 @@
 pub mod walking; // walking.rt: the marked numbers of a row, and the union of the rows that it marks
 
 pub use walking::gather;
-
 ghost use mathlib.Core.Path.{_≡_};
 ghost use Prim.Native.Nat.{_+_, _*_, _≤_, _<_};
 ghost use lib.ListN.{length};

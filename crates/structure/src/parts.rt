@@ -8,12 +8,12 @@ ghost use lib.ListN.{length};
 ghost use Rattle.catalogue.specs.Header.{concepts};
 ghost use Rattle.catalogue.specs.WellFormed.{WellFormed};
 ghost use Rattle.structure.specs.Parts.{Contains};
-ghost use Rattle.structure.specs.Marks.{Adds, InPart, Markable};
+ghost use Rattle.structure.specs.Marks.{MarksMore, InPart, Markable};
 
 // Marks all that concept i contains, itself too. A marked concept is passed over, so that shared parts cost nothing twice.
 fn mark_contained(b: &[u8], i: usize, row: &mut [u8])
     requires { ⌜ Markable (now b) (i + 1) (now row) ⌝ }
-    ensures { λ _. ⌜ Adds (Contains (now (b .entry)) i) (now (row .entry)) (now (row .exit)) ⌝ }
+    ensures { λ _. ⌜ MarksMore (Contains (now (b .entry)) i) (now (row .entry)) (now (row .exit)) ⌝ }
 {
     if rows::has(row, i) {
         return;
@@ -25,7 +25,7 @@ fn mark_contained(b: &[u8], i: usize, row: &mut [u8])
 // Marks all that the parts of concept i contain: both conjuncts, or the concept of an existential.
 pub fn mark_parts(b: &[u8], i: usize, row: &mut [u8])
     requires { ⌜ Markable (now b) i (now row) × (i < concepts (now b)) ⌝ }
-    ensures { λ _. ⌜ Adds (InPart (now (b .entry)) i) (now (row .entry)) (now (row .exit)) ⌝ }
+    ensures { λ _. ⌜ MarksMore (InPart (now (b .entry)) i) (now (row .entry)) (now (row .exit)) ⌝ }
 {
     let concept = Concept::at(b, i);
     let kind = concept.kind;

@@ -9,7 +9,7 @@ use borrow.Fn.PlainCycle.{Measures, is, falls, and}
 use Rattle.catalogue.specs.Records.{kind, first, second}
 use Rattle.catalogue.proofs.Bounds.{concept-within}
 use Rattle.structure.specs.Parts.{Contains}
-use Rattle.structure.specs.Marks.{Adds, ClosedBelow}
+use Rattle.structure.specs.Marks.{MarksMore, ClosedBelow}
 use Rattle.structure.proofs.Marking.{adds-put, closed-less, closed-adds, closed-put, conjunction-parts, existential-parts, no-parts, contained, contained-already, markable-below}
 use Rattle.structure.proofs.parts.mark_contained.Reads as mark-contained
 use Rattle.structure.proofs.parts.mark_contained.Kinds as mark-contained-kinds
@@ -132,8 +132,8 @@ mark-parts-returns t c =
     let w = c .before .before .before .before .before .before .mark-contained in
     let w′ = c .before .before .mark-contained2 in
     conjunction-parts row (w .last .1 .1 .0) (w′ .last .1 .1 .0) (sym (d .kind-is) ∙ c .before .before .before .before .before .before .before .before .if1 .taken)
-    (subst (λ (x : ℕ). Adds (Contains b x) row (w .last .1 .1 .0)) (d .first-is) (w .ensures))
-    (subst (λ (x : ℕ). Adds (Contains b x) (w .last .1 .1 .0) (w′ .last .1 .1 .0)) (d .second-is) (w′ .ensures))
+    (subst (λ (x : ℕ). MarksMore (Contains b x) row (w .last .1 .1 .0)) (d .first-is) (w .ensures))
+    (subst (λ (x : ℕ). MarksMore (Contains b x) (w .last .1 .1 .0) (w′ .last .1 .1 .0)) (d .second-is) (w′ .ensures))
 
 mark-parts-same-length-2 : (t : ℕ) → mark-parts-lts.Need-same-length-2 (reading t) (mark-parts-at t) mark-parts.Post
 mark-parts-same-length-2 t c = search needs
@@ -144,7 +144,7 @@ mark-parts-returns-2 t c =
     let d = c .before .before .before .before .before .before .at .ensures in
     let w = c .before .before .mark-contained3 in
     existential-parts (a .row .now) (w .last .1 .1 .0) (sym (d .kind-is) ∙ c .before .before .before .before .if2 .taken)
-    (subst (λ (x : ℕ). Adds (Contains (a .b .now) x) (a .row .now) (w .last .1 .1 .0)) (d .second-is) (w .ensures))
+    (subst (λ (x : ℕ). MarksMore (Contains (a .b .now) x) (a .row .now) (w .last .1 .1 .0)) (d .second-is) (w .ensures))
 
 mark-parts-returns-3 : (t : ℕ) → mark-parts-lts.Need-returns-3 (reading t) (mark-parts-at t) mark-parts.Post
 mark-parts-returns-3 t c =
