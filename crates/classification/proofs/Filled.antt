@@ -32,18 +32,14 @@ use Rattle.rules.proofs.Bounds.{closure-bounded}
 use Rattle.store.proofs.Stored.{marks-fresh}
 use Rattle.classification.proofs.Counted.{pairs-size, links-size}
 
--- The bytes of a table of rows.
-abbrev pub rowsOf : Shape → ℕ
-rowsOf s = s .concepts * s .width
-
 -- How the store came about: `rows` copied to the front of it, and then `set` put in their place behind them.
 pub record FilledFrom (b rows set work store copied filled : List ℕ) (s : Shape) : Type 0 where
   pub well-formed : WellFormed b
   pub long : length store ≡ used b
-  pub rows-long : length rows ≡ rowsOf s
-  pub copied-is : copied ≡ rows ++ drop (rowsOf s) store
+  pub rows-long : length rows ≡ tableLength s
+  pub copied-is : copied ≡ rows ++ drop (tableLength s) store
   pub set-long : length set ≡ blockLength s
-  pub filled-is : filled ≡ putMid (rowsOf s) (length store - rowsOf s) copied set
+  pub filled-is : filled ≡ putMid (tableLength s) (length store - tableLength s) copied set
   pub axioms : (c d : ℕ) → table s rows c d ≡ catalogueAxioms b c d
   pub closes : Closes b s (table s rows) set work
   pub bytes : Bytes filled
@@ -51,16 +47,16 @@ pub record FilledFrom (b rows set work store copied filled : List ℕ) (s : Shap
 -- What it holds then.
 pub record FilledTo (b work store filled : List ℕ) (s : Shape) : Type 0 where
   pub fresh : Fresh b (catalogueAxioms b) filled
-  pub pairs : Size b (Pairs (Closure b (catalogueAxioms b))) (countBits (midOf (rowsOf s) ((rowsOf s + rowsOf s) - rowsOf s) filled))
-  pub links : Size b (Links (Closure b (catalogueAxioms b))) (countBits (midOf (rowsOf s + rowsOf s) (length store - (rowsOf s + rowsOf s)) filled))
+  pub pairs : Size b (Pairs (Closure b (catalogueAxioms b))) (countBits (midOf (tableLength s) ((tableLength s + tableLength s) - tableLength s) filled))
+  pub links : Size b (Links (Closure b (catalogueAxioms b))) (countBits (midOf (tableLength s + tableLength s) (length store - (tableLength s + tableLength s)) filled))
   pub work-zero : work ≡ replicate (workUsed b) 0
 
 -- The sizes of a store's parts, by its shape.
 pub record PartSizes (b store : List ℕ) (s : Shape) : Type 0 where
-  pub whole : length store ≡ rowsOf s + blockLength s
-  pub half : rowsOf s ≤ blockLength s
+  pub whole : length store ≡ tableLength s + blockLength s
+  pub half : tableLength s ≤ blockLength s
   pub limit : length store ≤ 1048576
-  pub table-limit : rowsOf s ≤ 32768
+  pub table-limit : tableLength s ≤ 32768
 
 sizes-at : (b store : List ℕ) → WellFormed b → length store ≡ used b → PartSizes b store (shapeOf b)
 unfolding tableLength
@@ -82,12 +78,8 @@ module _ (b rows set work store copied filled : List ℕ) (h : FilledFrom b rows
   F : Axioms
   F = catalogueAxioms b
 
-  t : ℕ
+  abbrev t : ℕ
   t = tableLength (shapeOf b)
-
-  t-is : rowsOf (shapeOf b) ≡ t
-  unfolding t tableLength
-  t-is = refl
 
   sizes : PartSizes b store (shapeOf b)
   sizes = sizes-at b store (h .well-formed) (h .long)
@@ -96,29 +88,28 @@ module _ (b rows set work store copied filled : List ℕ) (h : FilledFrom b rows
   copied-long =
       let z = sizes in
       ap length (h .copied-is)
-      ∙ length-append rows (drop (rowsOf (shapeOf b)) store)
-      ∙ (let y : length rows + length (drop (rowsOf (shapeOf b)) store) ≡ length store = omega (arith, h .rows-long, t-is, length-drop (rowsOf (shapeOf b)) store) in y)
+      ∙ length-append rows (drop t store)
+      ∙ (let y : length rows + length (drop t store) ≡ length store = omega (arith, h .rows-long, length-drop t store) in y)
 
   front : take t filled ≡ rows
   front =
-      ap₂ take (sym t-is) (h .filled-is)
-      ∙ take-put (rowsOf (shapeOf b)) (length store - rowsOf (shapeOf b)) copied set (let z = sizes in omega (arith, copied-long, t-is))
-      ∙ ap (take (rowsOf (shapeOf b))) (h .copied-is)
-      ∙ take-at rows (drop (rowsOf (shapeOf b)) store) (rowsOf (shapeOf b)) (h .rows-long)
+      ap (take t) (h .filled-is)
+      ∙ take-put t (length store - t) copied set (let z = sizes in omega (arith, copied-long))
+      ∙ ap (take t) (h .copied-is)
+      ∙ take-at rows (drop t store) t (h .rows-long)
 
   back : drop t filled ≡ set
   back =
-      let p = rowsOf (shapeOf b) in
-      let within : p ≤ length copied = let z = sizes in omega (arith, copied-long, t-is) in
-      let post : postOf p (length store - p) copied ≡ [] =
-      post-is p (length store) copied (omega (arith, copied-long)) ∙ drop-of-length-le copied {i = length store} (omega (arith, copied-long)) in
-      ap₂ drop (sym t-is) (h .filled-is)
-      ∙ drop-at (take p copied) (set ++ postOf p (length store - p) copied) p (length-take-le p copied within)
+      let within : t ≤ length copied = let z = sizes in omega (arith, copied-long) in
+      let post : postOf t (length store - t) copied ≡ [] =
+      post-is t (length store) copied (omega (arith, copied-long)) ∙ drop-of-length-le copied {i = length store} (omega (arith, copied-long)) in
+      ap (drop t) (h .filled-is)
+      ∙ drop-at (take t copied) (set ++ postOf t (length store - t) copied) t (length-take-le t copied within)
       ∙ ap (λ (l : List ℕ). set ++ l) post
       ∙ append-nil set
 
   in-force : (c d : ℕ) → inForce b filled c d ≡ F c d
-  unfolding inForce axiomRows F t
+  unfolding inForce axiomRows F
   in-force c d = ap (λ (l : List ℕ). table (shapeOf b) l c d) front ∙ h .axioms c d
 
   same : table (shapeOf b) rows ≡ F
@@ -129,7 +120,7 @@ module _ (b rows set work store copied filled : List ℕ) (h : FilledFrom b rows
   set-held = subst (λ (G : Axioms). Decides (marks (shapeOf b) set) (Closure b G)) same (h .closes .held)
 
   block : setRows b filled ≡ set
-  unfolding setRows t
+  unfolding setRows
   block = ap (take (blockLength (shapeOf b))) back ∙ take-all (blockLength (shapeOf b)) set (omega (arith, h .set-long))
 
   in-set : Decides (held b filled) (Closure b F)
@@ -141,29 +132,28 @@ module _ (b rows set work store copied filled : List ℕ) (h : FilledFrom b rows
       let z = sizes in
       ap length (sym (take-append-drop t filled))
       ∙ length-append (take t filled) (drop t filled)
-      ∙ ap₂ _+_ (ap length front ∙ h .rows-long ∙ t-is) (ap length back ∙ h .set-long)
-      ∙ sym (z .whole ∙ ap (λ (k : ℕ). k + blockLength (shapeOf b)) t-is)
+      ∙ ap₂ _+_ (ap length front ∙ h .rows-long) (ap length back ∙ h .set-long)
+      ∙ sym (z .whole)
 
   at-shape : FilledTo b work store filled (shapeOf b)
-  unfolding F t tableLength
+  unfolding F
   at-shape =
       let wf = h .well-formed in
       let range = catalogue-in-range b wf in
       let bounded = closure-bounded b F wf range in
-      let p = rowsOf (shapeOf b) in
       let z = sizes in
       record {
         fresh = marks-fresh b F filled wf range in-force in-set (omega (arith, filled-long, h .long)) (λ i l. h .bytes i);
         pairs =
             subst (λ (l : List ℕ). Size b (Pairs (Closure b F)) (countBits l))
-            (sym (ap₂ take (let y : (p + p) - p ≡ p = omega arith in y) back))
+            (sym (ap₂ take (let y : (t + t) - t ≡ t = omega arith in y) back))
             (pairs-size b set (Closure b F) (h .set-long) set-held bounded);
         links =
             subst (λ (l : List ℕ). Size b (Links (Closure b F)) (countBits l))
             (sym
-            (take-all (length store - (p + p)) (drop (p + p) filled) (omega (arith, length-drop (p + p) filled, filled-long))
-            ∙ sym (drop-drop p p filled)
-            ∙ ap (drop p) back))
+            (take-all (length store - (t + t)) (drop (t + t) filled) (omega (arith, length-drop (t + t) filled, filled-long))
+            ∙ sym (drop-drop t t filled)
+            ∙ ap (drop t) back))
             (links-size b set (Closure b F) (h .set-long) set-held bounded);
         work-zero = h .closes .work-zero ∙ ap (λ (k : ℕ). replicate k 0) (sym (work-is-block b));
       }

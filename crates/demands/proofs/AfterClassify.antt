@@ -14,7 +14,7 @@ use Rattle.layout.specs.Parts.{inForce}
 use Rattle.store.specs.Fresh.{Fresh}
 use Rattle.store.specs.Written.{axiomCount}
 use Rattle.store.proofs.AxiomCounts.{catalogue-count}
-use Rattle.lookups.proofs.DemandLookup.{same-axioms}
+use Rattle.store.proofs.Checks.{marked-axioms}
 use Rattle.classification.specs.Classified.{classifyChecks}
 use Rattle.classification.proofs.Checks.{accepted-fits}
 use Rattle.demands.specs.Demands.{AfterClassify}
@@ -46,4 +46,4 @@ after-classify P f b store work answer store' work' call ok =
 
 -- The axioms in force in the store are the catalogue's.
 pub in-force-own : (b store : List ℕ) → ClassifiedStore b store → inForce b store ≡ catalogueAxioms b
-in-force-own b store u = same-axioms b (catalogueAxioms b) store (u .catalogue) (u .range) (u .few) (u .fresh)
+in-force-own b store u = marked-axioms b (catalogueAxioms b) store (u .fresh)

@@ -7,7 +7,7 @@ use mathlib.Core.Logic.{_⊎_}
 use mathlib.Core.List.{List, _++_}
 use lib.ListN.{length, take, drop}
 use denote.Ref.{RefT, now}
-use Rattle.catalogue.specs.Header.{concepts}
+use Rattle.rows.specs.Bits.{Bytes}
 use Rattle.catalogue.specs.Outcome.{accepted}
 use Rattle.catalogue.specs.Checks.{checked}
 use Rattle.rules.specs.Axioms.{InRange, catalogueAxioms}
@@ -15,7 +15,7 @@ use Rattle.rules.specs.Occurrence.{Occurs}
 use Rattle.rules.specs.Models.{Entails, Refuted}
 use Rattle.layout.specs.Parts.{used, workUsed, inForce}
 use Rattle.store.specs.Fresh.{Fresh}
-use Rattle.store.specs.Written.{axiomCount, written, SameRecords}
+use Rattle.store.specs.Written.{axiomCount, written}
 use Rattle.lookups.specs.Answers.{lookedUp}
 use Rattle.lookups.specs.Listings.{kindsUnder, Lists}
 use Rattle.lookups.specs.Rows.{rowAnswer, HandsOut}
@@ -73,22 +73,18 @@ ClassifyThenRow =
 
 -- ---- write
 
--- Catalogue w, written for b: no question but 20 is answered no, and 20 exactly where the output is shorter than b. Written, w stands in front and
--- the bytes beyond it stay; it is as long as b, is accepted by questions 1 to 9, and has b's axioms and other records.
-pub record WritesBack (b w output : List ℕ) (answer : Wrote) (output' : List ℕ) : Type 0 where
-  pub same-length : length w ≡ length b
-  pub fits : length b ≤ length output → (answer ≡ writes.Length (length b)) × (output' ≡ w ++ drop (length b) output)
+-- Write gives b: no question but 20 is answered no, and 20 exactly where the output is shorter than b. Written, b stands in front, byte for byte, and
+-- the bytes beyond it stay.
+pub record WritesBack (b output : List ℕ) (answer : Wrote) (output' : List ℕ) : Type 0 where
+  pub fits : length b ≤ length output → (answer ≡ writes.Length (length b)) × (output' ≡ b ++ drop (length b) output)
   pub short : length output < length b → (answer ≡ writes.Refused 20 0) × (output' ≡ output)
-  pub accepts : checked w ≡ accepted
-  pub same-axioms : (c d : ℕ) → catalogueAxioms w c d ≡ catalogueAxioms b c d
-  pub same-records : SameRecords b w
 
+-- Write gives back the catalogue itself, which as a lent slice is made of bytes.
 abbrev pub ClassifyThenWrite : Type 0
 ClassifyThenWrite =
     AfterClassify
     (λ b store.
-    (output : List ℕ) (answer : Wrote) (output' : List ℕ) → Writes b store output answer output'
-    → WritesBack b (written b (catalogueAxioms b)) output answer output')
+    Bytes b → (output : List ℕ) (answer : Wrote) (output' : List ℕ) → Writes b store output answer output' → WritesBack b output answer output')
 
 -- ---- classify of what was written
 

@@ -2,7 +2,7 @@
 use Prim.Native.Nat.{ℕ, zero, suc, _+_, _*_, _%_, _/_, _≤_, _<_}
 use native.Mathlib.Nat.{not-suc-le-zero, le-of-suc-le-suc}
 use native.Mathlib.Omega.{arith}
-use mathlib.Core.Path.{_≡_, refl, sym, ap, ap₂, subst, _∙_}
+use mathlib.Core.Path.{_≡_, refl, sym, ap, subst, _∙_}
 use mathlib.Core.List.{List, [], _∷_, _++_}
 use lib.ListN.{length, getD, drop}
 use Rattle.catalogue.specs.Header.{concepts}
@@ -17,23 +17,18 @@ use Rattle.layout.specs.Parts.{inForce}
 use Rattle.store.specs.Fresh.{Fresh}
 use Rattle.store.specs.Written.{axiomCount}
 use Rattle.store.proofs.Rising.{rising-lists}
+use Rattle.store.proofs.Records.{word-later}
+use Rattle.store.proofs.Checks.{marked-axioms}
 use Rattle.lookups.specs.Checks.{listChecks}
 use Rattle.lookups.specs.Listings.{atomicUnder, kindsUnder, withFront, listed, listAfter, Lists}
 use Rattle.lookups.specs.Meaning.{ListingFinds}
 use Rattle.lookups.specs.declared.kinds.Listed.{Listed}
 use Rattle.lookups.specs.declared.kinds.Listed.the-variants.{Count, Refused}
 use Rattle.lookups.proofs.Acceptance.{every-one, list-named}
-use Rattle.lookups.proofs.DemandLookup.{same-axioms}
 use Rattle.lookups.proofs.DemandListing.{listing-means, listed-exact}
 use Rattle.lookups.proofs.Unique.{refused-keeps}
 
 -- ---- the entries of a list
-
-word-later : (a0 a1 : ℕ) (xs : List ℕ) (i j : ℕ) → i ≡ suc (suc j) → word (a0 ∷ a1 ∷ xs) i ≡ word xs j
-unfolding word
-word-later a0 a1 xs i j e =
-    let s : i + 1 ≡ suc (suc (j + 1)) = omega arith in
-    ap₂ (λ (l h : ℕ). getD (a0 ∷ a1 ∷ xs) l 0 + 256 * getD (a0 ∷ a1 ∷ xs) h 0) e s
 
 -- Number i of those that stand in front.
 front-entry : (names rest : List ℕ) (i : ℕ) → i < length names → word (bytesOf names ++ rest) (2 * i) ≡ getD names i 0
@@ -72,7 +67,7 @@ module _ (b : List ℕ) (F : Axioms) (store : List ℕ) (catalogue : checked b �
     named-occurs : (k : ℕ) → r ≡ Count k → Occurs b F d
     named-occurs k e =
         let m = list-named b (d ∷ []) store (length list) (counted-accepted k e .0) .0 in
-        let own : occurs b F d ≡ occurs b (inForce b store) d = ap (λ (G : Axioms). occurs b G d) (sym (same-axioms b F store catalogue range few fresh)) in
+        let own : occurs b F d ≡ occurs b (inForce b store) d = ap (λ (G : Axioms). occurs b G d) (sym (marked-axioms b F store fresh)) in
         occurs-exact b F (accepted-well-formed catalogue) range d .0 (own ∙ sym (every-one (occurs b (inForce b store)) d) ∙ m .occur)
 
     entry-is : (k : ℕ) → r ≡ Count k → (i : ℕ) → i < length names → word after (2 * i) ≡ getD names i 0

@@ -1,13 +1,13 @@
 -- Demands 1 and 2 of the calls that read: what their answers mean from a store classified afresh, under the same catalogue.
 use Prim.Native.Nat.{ℕ, _≤_, _<_}
 use native.Mathlib.Omega.{arith}
-use mathlib.Core.Path.{_≡_, refl, sym, ap, fun-ext, _∙_}
+use mathlib.Core.Path.{_≡_, refl, sym, ap, _∙_}
 use mathlib.Core.Bool.{Bool, true, false}
 use mathlib.Core.Logic.{_↔_, inl, inr}
 use mathlib.Core.List.{List, [], _∷_}
 use lib.Dec.{ltb}
 use lib.ListN.{length}
-use borrow.Author.Tests.{ltb-true, lt-ltb, le-leb}
+use borrow.Author.Tests.{ltb-true, lt-ltb}
 use Rattle.catalogue.specs.Header.{concepts}
 use Rattle.catalogue.specs.Outcome.{Outcome, accepted}
 use Rattle.catalogue.specs.Checks.{checked}
@@ -23,10 +23,11 @@ use Rattle.rules.specs.Models.{Entails, Refuted}
 use Rattle.rules.proofs.Occurrence.{occurs-exact, occurs-below}
 use Rattle.rules.proofs.DemandTwo.{demand-two-closure}
 use Rattle.rules.proofs.NoAxioms.{none-occurs}
-use Rattle.layout.specs.Parts.{inForce, held}
+use Rattle.layout.specs.Parts.{held}
 use Rattle.store.specs.Written.{axiomCount}
 use Rattle.store.specs.Fresh.{Fresh}
-use Rattle.store.specs.Checks.{storeFits, axiomsInLimit, askStore, askSpare, askLimit}
+use Rattle.store.specs.Checks.{askStore, askSpare, askLimit}
+use Rattle.store.proofs.Checks.{marked-axioms, marked-fits, marked-limit}
 use Rattle.lookups.specs.Checks.{every, askNumbers, askOccurs, openChecks, contentChecks, readChecks}
 use Rattle.lookups.specs.Answers.{looked, lookedUp}
 use Rattle.lookups.specs.Meaning.{LookupMeans}
@@ -66,28 +67,17 @@ module _ (b : List ℕ) (F : Axioms) (store : List ℕ) (catalogue : checked b �
   wf : WellFormed b
   wf = accepted-well-formed catalogue
 
-  pub same-axioms : inForce b store ≡ F
-  same-axioms = fun-ext (λ c. fun-ext (λ d. fresh .axioms c d))
-
-  store-passes : storeFits b (length store) ≡ true
-  unfolding storeFits
-  store-passes = le-leb _ _ (fresh .long)
-
-  limit-passes : axiomsInLimit b (inForce b store) ≡ true
-  unfolding axiomsInLimit
-  limit-passes = ap (axiomsInLimit b) same-axioms ∙ le-leb _ _ few
-
   -- Questions 1 to 10 pass, and so do 13 and 14: the calls ask 15 and 19 of F.
   pub content-asks : (names : List ℕ) → contentChecks b names store ≡ askNumbers b names (askOccurs (occurs b F) names accepted)
   unfolding contentChecks askSpare askLimit
   content-asks names =
       ask-yes 13 0 _ (fresh .spare)
-      ∙ ask-yes 14 0 _ limit-passes
-      ∙ ap (λ (G : Axioms). askNumbers b names (askOccurs (occurs b G) names accepted)) same-axioms
+      ∙ ask-yes 14 0 _ (marked-limit b F store fresh few)
+      ∙ ap (λ (G : Axioms). askNumbers b names (askOccurs (occurs b G) names accepted)) (marked-axioms b F store fresh)
 
   pub open-passes : (rest : Outcome) → openChecks b (length store) rest ≡ rest
   unfolding openChecks askStore
-  open-passes rest = after-accepted b _ catalogue ∙ ask-yes 10 0 rest store-passes
+  open-passes rest = after-accepted b _ catalogue ∙ ask-yes 10 0 rest (marked-fits b F store fresh)
 
   pub read-asks : (names : List ℕ) → readChecks b names store ≡ askNumbers b names (askOccurs (occurs b F) names accepted)
   unfolding readChecks

@@ -1,3 +1,3 @@
-mod Held
+pub mod Held
 pub mod Copying
 pub mod Acceptance

@@ -1,9 +1,10 @@
--- How many axioms there are: of the catalogue's own as many as its records, and one more or one less after an edit.
-use Prim.Native.Nat.{ℕ, zero, suc, _+_, _-_, _*_, _/_, _%_, _<_}
-use native.Mathlib.Nat.{not-suc-le-zero, div-add-mod', eq-or-lt-of-le}
+-- The catalogue's own axioms by their numbers, in the order of its records; how many axioms there are: of its own as many as its records, and one more
+-- or one less after an edit.
+use Prim.Native.Nat.{ℕ, zero, suc, _+_, _*_, _/_, _%_, _<_}
+use native.Mathlib.Nat.{not-suc-le-zero, div-add-mod'}
 use native.Mathlib.Decide.{ℕ-discrete}
 use native.Mathlib.Omega.{arith}
-use mathlib.Core.Path.{_≡_, refl, sym, ap, ap₂, subst, _∙_}
+use mathlib.Core.Path.{_≡_, refl, sym, ap, ap₂, _∙_}
 use mathlib.Core.Logic.{inl, inr, ⊎-elim}
 use mathlib.Core.Bool.{Bool, true, false}
 use mathlib.Core.List.{List}
@@ -11,77 +12,26 @@ use Rattle.catalogue.specs.Header.{concepts, axioms}
 use Rattle.catalogue.specs.Records.{left, right}
 use Rattle.catalogue.specs.WellFormed.{WellFormed}
 use Rattle.rows.specs.Bits.{countBelow}
-use Rattle.rows.proofs.ByteBits.{split-last}
 use Rattle.rows.proofs.Counting.{count-ext, count-pass, count-fail}
-use Rattle.booleans.proofs.Booleans.{by-bool, not-both, not-true-false, agree}
+use Rattle.booleans.proofs.Booleans.{by-bool, not-true-false, agree}
 use Rattle.rules.specs.Axioms.{Axioms, catalogueAxioms, added, withdrawn}
 use Rattle.rules.proofs.Axioms.{catalogue-axioms-exact, added-exact, withdrawn-exact}
 use Rattle.rows.proofs.Places.{row-within}
 use Rattle.store.specs.Written.{numbered, axiomCount}
+use Rattle.store.proofs.Rising.{Indexed, count-indexed}
 use Rattle.store.proofs.Written.{number-left, number-right, number-below}
-
--- ---- numbers in a rising row
-
--- The numbers below k that pass a test are p 0, p 1, .., p (a - 1), rising.
-record Indexed (test : ℕ → Bool) (k a : ℕ) (p : ℕ → ℕ) : Type 0 where
-  below : (i : ℕ) → i < a → p i < k
-  passes : (i : ℕ) → i < a → test (p i) ≡ true
-  rises : (i : ℕ) → suc i < a → p i < p (suc i)
-  all : (q : ℕ) → q < k → test q ≡ true → (i : ℕ) × (i < a) × (p i ≡ q)
-
-module _ (test : ℕ → Bool) (p : ℕ → ℕ) where
-  without : (k a : ℕ) → test k ≡ false → Indexed test (suc k) a p → Indexed test k a p
-  without k a e f =
-      record {
-        below = λ i l. ⊎-elim (λ s. absurd (not-both (f .passes i l) (ap test s ∙ e))) (λ h. h) (split-last (p i) k (f .below i l));
-        passes = f .passes;
-        rises = f .rises;
-        all = λ q l t. f .all q (omega arith) t;
-      }
-
-  -- The one whose number is the largest is the last.
-  last : (k a i : ℕ) → i < a → p i ≡ k → Indexed test (suc k) a p → a ≡ suc i
-  last k a i l e f =
-      ⊎-elim (λ s. sym s) (λ h. absurd (let z : ⊥ = omega (arith, f .rises i h, f .below (suc i) h) in z))
-      (eq-or-lt-of-le l)
-
-  rising-below : (k i : ℕ) → p i ≡ k → Indexed test (suc k) (suc i) p → (j : ℕ) (d : ℕ) → i ≡ suc (j + d) → p j < k
-  rising-below k i e f j zero s = let r = f .rises j (omega arith) in subst (λ x. p j < x) (ap p (let z : suc j ≡ i = omega arith in z) ∙ e) r
-  rising-below k i e f j (suc d) s = let r = f .rises j (omega arith) in let h = rising-below k i e f (suc j) d (omega arith) in omega arith
-
-  before : (k i : ℕ) → p i ≡ k → Indexed test (suc k) (suc i) p → Indexed test k i p
-  before k i e f =
-      record {
-        below = λ j l. rising-below k i e f j (i - suc j) (omega arith);
-        passes = λ j l. f .passes j (omega arith);
-        rises = λ j l. f .rises j (omega arith);
-        all = λ q l t.
-            let w = f .all q (omega arith) t in
-            ⊎-elim (λ s. absurd (let z : ⊥ = omega (arith, ap p s, w .2) in z)) (λ h. (w .0, h, w .2)) (split-last (w .0) i (w .1));
-      }
-
-  count-indexed : (k a : ℕ) → Indexed test k a p → countBelow test k ≡ a
-  unfolding countBelow
-  count-indexed zero zero f = refl
-  count-indexed zero (suc a) f = absurd (not-suc-le-zero (f .below 0 (omega arith)))
-  count-indexed (suc k) a f =
-      by-bool (test k)
-      (λ e.
-      let w = f .all k (omega arith) e in
-      let s = last k a (w .0) (w .1) (w .2) f in
-      count-pass test k e ∙ ap suc (count-indexed k (w .0) (before k (w .0) (w .2) (subst (λ a. Indexed test (suc k) a p) s f))) ∙ sym s)
-      (λ e. count-fail test k e ∙ count-indexed k a (without k a e f))
 
 -- ---- the catalogue's own axioms
 
-pub catalogue-count : (b : List ℕ) → WellFormed b → axiomCount b (catalogueAxioms b) ≡ axioms b
-unfolding axiomCount numbered
-catalogue-count b wf =
+-- Record k has the k-th number in force.
+pub catalogue-indexed : (b : List ℕ) → WellFormed b
+    → Indexed (numbered (concepts b) (catalogueAxioms b)) (concepts b * concepts b) (axioms b) (λ k. left b k * concepts b + right b k)
+unfolding numbered
+catalogue-indexed b wf =
     let n = concepts b in
     let F = catalogueAxioms b in
     let p : ℕ → ℕ = λ i. left b i * n + right b i in
-    count-indexed (numbered n F) p (n * n) (axioms b)
-    (record {
+    record {
       below = λ i l. let s = wf .sides i l in number-below n (left b i) (right b i) (s .0) (s .1);
       passes = λ i l.
           let s = wf .sides i l in
@@ -96,7 +46,11 @@ catalogue-count b wf =
       all = λ q l t.
           let f = catalogue-axioms-exact b (q / n) (q % n) .0 t in
           (f .0, f .1, ap₂ (λ (x y : ℕ). x * n + y) (f .2) (f .3) ∙ div-add-mod' q n);
-    })
+    }
+
+pub catalogue-count : (b : List ℕ) → WellFormed b → axiomCount b (catalogueAxioms b) ≡ axioms b
+unfolding axiomCount
+catalogue-count b wf = count-indexed (numbered (concepts b) (catalogueAxioms b)) _ (concepts b * concepts b) (axioms b) (catalogue-indexed b wf)
 
 -- ---- one more, one less
 

@@ -1,13 +1,16 @@
--- What a yes to each of questions 10 to 14 says, and a no.
+-- What a yes to each of questions 10 to 14 says, and a no; and what a store that marks F passes.
 use Prim.Native.Nat.{ℕ, _*_, _≤_, _<_}
-use mathlib.Core.Path.{_≡_}
+use mathlib.Core.Path.{_≡_, ap, fun-ext, _∙_}
 use mathlib.Core.Bool.{true, false}
 use mathlib.Core.List.{List}
+use lib.ListN.{length}
 use borrow.Author.Tests.{leb-true, leb-false, le-leb}
 use Rattle.catalogue.specs.Header.{concepts}
 use Rattle.rules.specs.Axioms.{Axioms}
-use Rattle.layout.specs.Parts.{used, workUsed}
+use Rattle.rules.specs.Rules.{Expression}
+use Rattle.layout.specs.Parts.{used, workUsed, inForce}
 use Rattle.store.specs.Written.{axiomCount}
+use Rattle.store.specs.Fresh.{Marked}
 use Rattle.store.specs.Checks.{storeFits, workFits, listFits, axiomsInLimit}
 
 pub store-long : (b : List ℕ) (long : ℕ) → storeFits b long ≡ true → used b ≤ long
@@ -33,3 +36,15 @@ axioms-few b F e = leb-true _ _ e
 pub few-axioms : (b : List ℕ) (F : Axioms) → axiomCount b F ≤ 4096 → axiomsInLimit b F ≡ true
 unfolding axiomsInLimit
 few-axioms b F l = le-leb _ _ l
+
+-- A store that marks F, whatever set it marks beside it.
+module _ {S : Expression → Type 0} (b : List ℕ) (F : Axioms) (store : List ℕ) (marked : Marked b F S store) where
+  pub marked-axioms : inForce b store ≡ F
+  marked-axioms = fun-ext (λ c. fun-ext (λ d. marked .axioms c d))
+
+  pub marked-fits : storeFits b (length store) ≡ true
+  unfolding storeFits
+  marked-fits = le-leb _ _ (marked .long)
+
+  pub marked-limit : axiomCount b F ≤ 4096 → axiomsInLimit b (inForce b store) ≡ true
+  marked-limit few = ap (axiomsInLimit b) marked-axioms ∙ few-axioms b F few

@@ -5,18 +5,18 @@ use mathlib.Core.Bool.{Bool, true}
 use mathlib.Core.List.{List, map}
 use lib.ListN.{replicate}
 use Rattle.catalogue.specs.Words.{word, bytesOf}
-use Rattle.catalogue.specs.Header.{total, concepts, roles, inclusions, compositions, axioms, conceptsAt, inclusionsAt, compositionsAt, axiomsAt}
-use Rattle.catalogue.specs.Records.{kind, first, second, within, around, role1, role2, result, left, right}
-use Rattle.catalogue.specs.Outcome.{accepted, refused, ask, askEach, firstFault, firstFaultFrom}
-use Rattle.catalogue.specs.Checks.{headerFits, totalRight, countsInLimits, offsetsRight, kindRight, fieldsAsKind, fieldsRight, inclusionRight, compositionRight, sidesRight, above, risingRight, recordChecks, catalogueChecks, checked}
+use Rattle.catalogue.specs.Header.{concepts, roles, axioms, axiomsAt}
+use Rattle.catalogue.specs.Records.{left, right}
+use Rattle.catalogue.specs.Outcome.{accepted, refused, ask}
 use Rattle.catalogue.specs.Examples.{w1}
 use Rattle.rows.specs.Bits.{byteBit, bit, setBit, countBelow, someBelow, place}
 use Rattle.rules.specs.Axioms.{catalogueAxioms}
 use Rattle.layout.specs.Parts.{width, used, workUsed, rowCount, setFrom, spareClear}
 use Rattle.store.specs.Written.{rising, numbered, axiomCount, sidesOf, axiomRecords, setWord, written}
 use Rattle.store.specs.Checks.{storeFits, workFits, listFits, askStore, askWork, askList, askSpare}
-use Rattle.store.specs.Examples.{eightConcepts}
+use Rattle.store.specs.Examples.{atomicConcepts}
 use Rattle.layout.proofs.StoreRows.{no-spare}
+use Rattle.store.proofs.AtomicConcepts.{atomic-count}
 
 -- W1: the store has 35 bytes, the work space 28, the list 14; one byte less is refused.
 pub w1-lengths : (used w1 ≡ 35) × (workUsed w1 ≡ 28)
@@ -37,17 +37,9 @@ unfolding w1 word concepts roles width byteBit bit someBelow place rowCount setF
 w9-clear = (refl, refl)
 
 -- W9: n = 8, and no bit is spare, whatever the store holds.
-pub eight-accepted : checked eightConcepts ≡ accepted
-unfolding word bytesOf total concepts roles inclusions compositions axioms conceptsAt inclusionsAt compositionsAt axiomsAt kind first second within around role1 role2 result left right ask askEach firstFault firstFaultFrom headerFits totalRight countsInLimits offsetsRight kindRight fieldsAsKind fieldsRight inclusionRight compositionRight sidesRight above risingRight recordChecks catalogueChecks checked eightConcepts
-eight-accepted = refl
-
-eight : concepts eightConcepts ≡ 8
-unfolding word bytesOf concepts eightConcepts
-eight = refl
-
-pub w9-none : (store : List ℕ) → askSpare (spareClear eightConcepts store) accepted ≡ accepted
+pub w9-none : (store : List ℕ) → askSpare (spareClear (atomicConcepts 8) store) accepted ≡ accepted
 unfolding ask askSpare
-w9-none store = ap (λ (t : Bool). ask t 13 0 accepted) (no-spare eightConcepts store (ap (λ (n : ℕ). n % 8) eight))
+w9-none store = ap (λ (t : Bool). ask t 13 0 accepted) (no-spare (atomicConcepts 8) store (ap (λ (n : ℕ). n % 8) (atomic-count 8)))
 
 -- W1 has three axioms, and written with them it is W1 again.
 pub w1-axiom-count : axiomCount w1 (catalogueAxioms w1) ≡ 3

@@ -8,5 +8,7 @@ pub mod Counts
 pub mod LastBytes
 pub mod SameRules
 pub mod AxiomCounts
+pub mod WrittenBack
+pub mod AtomicConcepts
 pub mod Checks
 pub mod Examples

@@ -55,13 +55,17 @@ word-second xs ys n i e =
     in
     ap₂ (λ (l h : ℕ). l + 256 * h) (at (n + i) i refl) (at (n + i + 1) (i + 1) (omega arith))
 
+-- A number past the first two bytes.
+pub word-later : (a0 a1 : ℕ) (xs : List ℕ) (i j : ℕ) → i ≡ suc (suc j) → word (a0 ∷ a1 ∷ xs) i ≡ word xs j
+unfolding word
+word-later a0 a1 xs i j e =
+    let s : i + 1 ≡ suc (suc (j + 1)) = omega arith in
+    ap₂ (λ (l h : ℕ). getD (a0 ∷ a1 ∷ xs) l 0 + 256 * getD (a0 ∷ a1 ∷ xs) h 0) e s
+
 -- ---- axiom records
 
 word-next : (a0 a1 a2 a3 : ℕ) (xs : List ℕ) (i j : ℕ) → i ≡ suc (suc (suc (suc j))) → word (a0 ∷ a1 ∷ a2 ∷ a3 ∷ xs) i ≡ word xs j
-unfolding word
-word-next a0 a1 a2 a3 xs i j e =
-    let s : i + 1 ≡ suc (suc (suc (suc (j + 1)))) = omega arith in
-    ap₂ (λ (l h : ℕ). getD (a0 ∷ a1 ∷ a2 ∷ a3 ∷ xs) l 0 + 256 * getD (a0 ∷ a1 ∷ a2 ∷ a3 ∷ xs) h 0) e s
+word-next a0 a1 a2 a3 xs i j e = word-later a0 a1 (a2 ∷ a3 ∷ xs) i (suc (suc j)) e ∙ word-later a2 a3 xs (suc (suc j)) j refl
 
 pub length-records : (n : ℕ) (ps : List ℕ) → length (bytesOf (sidesOf n ps)) ≡ 4 * length ps
 unfolding bytesOf sidesOf

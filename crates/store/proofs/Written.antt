@@ -72,7 +72,7 @@ module _ (b : List ℕ) (F : Axioms) (wf : WellFormed b) where
   starts : 26 ≤ axiomsAt b
   starts = omega arith
 
-  word-kept : (i : ℕ) → 2 ≤ i → (i + 1 < 10) ⊎ (11 < i) → i + 1 < axiomsAt b → word (written b F) i ≡ word b i
+  pub word-kept : (i : ℕ) → 2 ≤ i → (i + 1 < 10) ⊎ (11 < i) → i + 1 < axiomsAt b → word (written b F) i ≡ word b i
   unfolding written head word
   word-kept i low other high =
       word-first head (axiomRecords b F) i (omega (arith, length-head))

@@ -1,7 +1,7 @@
 -- Lookup, row, listing and write on the worked examples: what they answer from any store classified afresh, and 13 where a spare bit is set.
 use Prim.Native.Nat.{ℕ, _+_, _*_, _≤_, _<_}
 use native.Mathlib.Omega.{arith}
-use mathlib.Core.Path.{_≡_, refl, sym, ap, fun-ext, _∙_}
+use mathlib.Core.Path.{_≡_, refl, ap, subst, fun-ext, _∙_}
 use mathlib.Core.Bool.{Bool, true, false, false≢true, _&&_}
 use mathlib.Core.List.{List, [], _∷_, _++_, map}
 use lib.Dec.{eqb}
@@ -13,7 +13,7 @@ use Rattle.catalogue.specs.Records.{kind, first, second, within, around, role1,
 use Rattle.catalogue.specs.Outcome.{accepted, ask, askEach, firstFault, firstFaultFrom}
 use Rattle.catalogue.specs.Checks.{headerFits, totalRight, countsInLimits, offsetsRight, kindRight, fieldsAsKind, fieldsRight, inclusionRight, compositionRight, sidesRight, above, risingRight, recordChecks, catalogueChecks}
 use Rattle.catalogue.specs.Examples.{w1}
-use Rattle.catalogue.proofs.Examples.{w1-offsets, w1-accepted, w1-well-formed}
+use Rattle.catalogue.proofs.Examples.{w1-accepted, w1-well-formed}
 use Rattle.catalogue.proofs.Outcomes.{ask-yes}
 use Rattle.rows.specs.Bits.{byteBit, bit, setBit, countBelow, someBelow, place}
 use Rattle.derivation.specs.Tables.{has}
@@ -23,10 +23,10 @@ use Rattle.rules.specs.Occurrence.{Occurs, occurs}
 use Rattle.rules.specs.Rules.{Expression, pair, Closure}
 use Rattle.rules.proofs.Occurrence.{occurs-exact}
 use Rattle.layout.specs.Layout.{shapeOf, rowOf, marks, blockLength, tableLength}
-use Rattle.layout.specs.Parts.{width, used, pairRowAt, setRows, inForce, held, rowCount, setFrom, spareClear}
-use Rattle.store.specs.Written.{numbered, axiomCount, rising, written}
+use Rattle.layout.specs.Parts.{width, used, pairRowAt, setRows, held, rowCount, setFrom, spareClear}
+use Rattle.store.specs.Written.{numbered, axiomCount, rising}
 use Rattle.store.specs.Fresh.{Fresh}
-use Rattle.store.specs.Checks.{storeFits, listFits, axiomsInLimit, askStore, askList, askSpare}
+use Rattle.store.specs.Checks.{storeFits, listFits, askStore, askList, askSpare}
 use Rattle.store.proofs.Examples.{w1-axiom-count, w1-written}
 use Rattle.lookups.specs.Checks.{every, askNumbers, askOccurs, openChecks, contentChecks, readChecks, listChecks}
 use Rattle.lookups.specs.Answers.{lookedUp}
@@ -36,9 +36,9 @@ use Rattle.lookups.specs.declared.pairs.Looked.the-variants.{Yes, No, Refused}
 use Rattle.lookups.specs.declared.handing.Handed.the-variants.{Row}
 use Rattle.lookups.proofs.Answered.{looked-up, row-accepted}
 use Rattle.lookups.proofs.DemandLookup.{content-asks, open-passes, read-asks, lookup-means}
-use Rattle.writing.specs.Write.{outputFits, writeChecks, Writes}
+use Rattle.writing.specs.Write.{writeChecks, Writes}
 use Rattle.writing.specs.declared.Wrote.the-variants.{Length}
-use Rattle.writing.proofs.Order.{writes-all, catalogue-first}
+use Rattle.writing.proofs.FreshWritten.{fresh-long}
 use Rattle.writing.proofs.Unique.{by-outcome-unique}
 use Rattle.worked.specs.Stores.{w1Store}
 use Rattle.worked.specs.Calls.{ListingGives, WriteGives}
@@ -147,25 +147,12 @@ module _ (store : List ℕ) (fresh : Fresh w1 axioms1 store) where
         l .entries ∙ ap (λ o. listAfter o (kindsUnder w1 6 store) list) asked ∙ ap (λ (n : List ℕ). listAfter accepted n list) names,
       )
 
-  same-axioms : inForce w1 store ≡ axioms1
-  same-axioms = fun-ext (λ c. fun-ext (λ d. fresh .axioms c d))
-
-  written-back : written w1 (inForce w1 store) ≡ w1
-  written-back = ap (written w1) same-axioms ∙ w1-written
-
   -- Write into an output that is long enough.
   pub w1-writes : (output : List ℕ) → 80 ≤ length output → Writes w1 store output (Length 80) (w1 ++ drop 80 output)
-  unfolding storeFits axiomsInLimit outputFits
+  unfolding w1
   w1-writes output long =
-      let left : List ℕ = w1 ++ drop 80 output in
-      let size : length (written w1 (inForce w1 store)) ≡ 80 = ap (λ (l : List ℕ). length l) written-back ∙ w1-offsets .0 in
-      catalogue-first w1 store output (Length 80) left w1-accepted
-      (writes-all w1 store output
-      (le-leb (used w1) (length store) (fresh .long))
-      (fresh .spare)
-      (ap (axiomsInLimit w1) same-axioms ∙ le-leb (axiomCount w1 axioms1) 4096 few1)
-      (le-leb (length (written w1 (inForce w1 store))) (length output) (omega (arith, size, long)))
-      80 left (sym size) (ap (λ (l : List ℕ). l ++ drop 80 output) (sym written-back)))
+      subst (λ (c : List ℕ). Writes w1 store output (Length (length c)) (c ++ drop (length c) output)) w1-written
+      (fresh-long w1 axioms1 store w1-accepted few1 fresh output (omega (arith, ap length w1-written)))
 
   pub w1-write : WriteGives w1 store 80 w1
   w1-write output answer output' w long =

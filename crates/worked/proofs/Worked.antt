@@ -6,7 +6,7 @@ use mathlib.Core.Bool.{true, false≢true}
 use mathlib.Core.List.{List}
 use lib.ListN.{take}
 use Rattle.catalogue.specs.Examples.{w1}
-use Rattle.catalogue.proofs.Examples.{w1-offsets, w1-accepted, nineteen-bytes, most-concepts, too-many-concepts}
+use Rattle.catalogue.proofs.Examples.{w1-offsets, w1-accepted, nineteen-bytes, most-concepts}
 use Rattle.rules.specs.Axioms.{none}
 use Rattle.rules.specs.Occurrence.{left-side, right-side}
 use Rattle.rules.specs.Rules.{Expression, Closure}
@@ -24,6 +24,7 @@ use Rattle.worked.proofs.W3.{w3-change, w3-left, w3-fresh, w5-change}
 use Rattle.worked.proofs.W6.{w6-change}
 use Rattle.worked.proofs.W7.{w7-classified, w7-fresh, w7-rows, w7-classify, w7-change, w7-left}
 use Rattle.worked.proofs.W8.{w8-classify, w8-lookup}
+use Rattle.worked.proofs.Limits.{most-accepted, most-classified, too-many-refused}
 use Rattle.worked.proofs.Reading.{w2-yes, w2-no, w2-lookups, w1-row, w1-listing3, w1-listing6, w1-write, w4-absent, w4-lookups, w9-lookup}
 use Rattle.worked.proofs.Examples.{example1-classified, example3-changed, example3-over, example3-classified, example4-classified, example4-changed, example4-over, example4-left-classified}
 
@@ -90,9 +91,11 @@ worked = record {
   W9-none = w9-none;
   bytes-19 = nineteen-bytes;
   bytes-19-classify = λ b e. classify-refuses b 1 0 (nineteen-bytes b e);
-  n-512 = most-concepts;
-  n-513 = too-many-concepts;
-  n-513-classify = classify-refuses _ 3 0 too-many-concepts;
+  n-512 = most-accepted;
+  n-512-classify = most-classified;
+  n-513 = too-many-refused;
+  n-513-classify = classify-refuses _ 3 0 too-many-refused;
+  limits = most-concepts;
   example1-closure = example1-classified;
   example3-change = example3-changed;
   example3-deleted = example3-over;

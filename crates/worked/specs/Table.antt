@@ -1,6 +1,6 @@
 -- The worked table (document 01, Examples; document 001, Examples 1, 3 and 4): catalogues, sets, counts, touched concepts, and stores, about
--- the definitions; and what classify, lookup, row, listing and write answer. What a call answers is said of every exit that its contract allows, and
--- what is read, of every store classified afresh.
+-- the definitions; and what classify, lookup, row, listing and write answer. What a call answers is said of every exit that its contract allows. What
+-- is read of W1 to W4, of every store classified afresh; of W8, of every store whose used part is zero; of W9, of W1's store with a spare bit set.
 use Prim.Native.Nat.{ℕ, _+_, _*_, _<_}
 use mathlib.Core.Bool.{true}
 use mathlib.Core.Path.{_≡_}
@@ -21,7 +21,7 @@ use Rattle.layout.specs.Parts.{used, workUsed, spareClear}
 use Rattle.store.specs.Fresh.{Fresh}
 use Rattle.store.specs.Checks.{askSpare}
 use Rattle.store.specs.Written.{rising}
-use Rattle.store.specs.Examples.{eightConcepts}
+use Rattle.store.specs.Examples.{atomicConcepts}
 use Rattle.lookups.specs.Answers.{lookedUp}
 use Rattle.lookups.specs.Rows.{rowAnswer}
 use Rattle.lookups.specs.declared.pairs.Looked.the-variants.{Yes, No, Refused}
@@ -128,13 +128,16 @@ pub record Worked : Type 0 where
   -- W9: n = 7 with bit 7 of any row set: 13; n = 8: no spare bit, whatever the store.
   pub W9 : map (λ (r : ℕ). askSpare (spareClear w1 (setBit (replicate 35 0) (8 * r + 7))) accepted) (rising (λ (r : ℕ). true) 35) ≡ replicate 35 (refused 13 0)
   pub W9-lookup : map (λ (r : ℕ). lookedUp w1 0 3 (setBit w1Store (8 * r + 7))) (rising (λ (r : ℕ). true) 35) ≡ replicate 35 (Refused 13 0)
-  pub W9-none : (store : List ℕ) → askSpare (spareClear eightConcepts store) accepted ≡ accepted
-  -- 19 bytes: 1. n 512 passes question 3, and a header alone is then refused by 4; 513: 3.
+  pub W9-none : (store : List ℕ) → askSpare (spareClear (atomicConcepts 8) store) accepted ≡ accepted
+  -- 19 bytes: 1. n 512 passes: a catalogue of 512 atomic concepts is accepted, whole, and classify of it, which has no axioms, answers no pair and no
+  -- link; 513: 3. At every limit a header alone passes 3 too, and is refused by 4.
   pub bytes-19 : (b : List ℕ) → length b ≡ 19 → checked b ≡ refused 1 0
   pub bytes-19-classify : (b : List ℕ) → length b ≡ 19 → ClassifyRefuses b 1 0
-  pub n-512 : checked (headerAlone 512 16 64 64 4096) ≡ refused 4 0
-  pub n-513 : checked (headerAlone 513 16 64 64 4096) ≡ refused 3 0
-  pub n-513-classify : ClassifyRefuses (headerAlone 513 16 64 64 4096) 3 0
+  pub n-512 : checked (atomicConcepts 512) ≡ accepted
+  pub n-512-classify : ClassifyGives (atomicConcepts 512) 65536 32768 0 0 (replicate 65536 0)
+  pub n-513 : checked (atomicConcepts 513) ≡ refused 3 0
+  pub n-513-classify : ClassifyRefuses (atomicConcepts 513) 3 0
+  pub limits : checked (headerAlone 512 16 64 64 4096) ≡ refused 4 0
   -- ---- document 001
   -- Example 1: the nineteen subsumptions, and with the links that rule 6 splits off.
   pub example1-closure : Classified example1 example1Axioms 19 10 (29 ∷ 102 ∷ 4 ∷ 28 ∷ 20 ∷ 100 ∷ 68 ∷ [])

@@ -3,4 +3,5 @@ pub mod Tabling
 pub mod Whole
 pub mod Order
 pub mod Unique
+pub mod FreshWritten
 pub mod Refusals

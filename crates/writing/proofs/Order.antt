@@ -1,12 +1,12 @@
 -- The questions of write in order, and what the call leaves at each.
-use mathlib.Core.Path.{_≡_, refl, sym, ap, _∙_, subst}
-use mathlib.Core.Bool.{Bool, true, false}
+use mathlib.Core.Path.{_≡_, sym, ap, _∙_, subst}
+use mathlib.Core.Bool.{true, false}
 use mathlib.Core.List.{List, _++_}
-use Prim.Native.Nat.{ℕ, _+_, _*_, _≤_, _<_}
+use Prim.Native.Nat.{ℕ}
 use lib.ListN.{length, drop}
-use Rattle.catalogue.specs.Header.{axiomsAt}
 use Rattle.catalogue.specs.Outcome.{Outcome, accepted, refused, ask}
-use Rattle.catalogue.specs.Checks.{checked, catalogueChecks}
+use Rattle.catalogue.specs.Checks.{checked}
+use Rattle.catalogue.proofs.Outcomes.{ask-yes, ask-no}
 use Rattle.catalogue.proofs.Passed.{after-accepted, after-refused}
 use Rattle.layout.specs.Parts.{inForce, spareClear}
 use Rattle.store.specs.Checks.{storeFits, axiomsInLimit, askStore, askSpare, askLimit}
@@ -15,56 +15,33 @@ use Rattle.writing.specs.Write.{outputFits, storeChecks, writeChecks, By
 use Rattle.writing.specs.declared.Wrote.{Wrote}
 use Rattle.writing.specs.declared.Wrote.the-variants.{Length, Refused}
 
--- The answers to 10, 13, 14 and 20 decide the outcome.
-chain : Bool → Bool → Bool → Bool → Outcome
-chain fits clear limit room = ask fits 10 0 (ask clear 13 0 (ask limit 14 0 (ask room 20 0 accepted)))
-
 module _ (b store output : List ℕ) where
-  asked : storeChecks b store (length output) ≡ chain (storeFits b (length store)) (spareClear b store) (axiomsInLimit b (inForce b store)) (outputFits b store (length output))
-  unfolding storeChecks askStore askSpare askLimit chain
-  asked = refl
-
   stopped : (number : ℕ) → storeChecks b store (length output) ≡ refused number 0 → ByOutcome b store output (storeChecks b store (length output)) (Refused number 0) output
   stopped number e = subst (λ (o : Outcome). ByOutcome b store output o (Refused number 0) output) (sym e) stays
 
   pub stops-10 : storeFits b (length store) ≡ false → ByOutcome b store output (storeChecks b store (length output)) (Refused 10 0) output
-  unfolding chain ask
-  stops-10 e = stopped 10 (asked ∙ ap (λ (t : Bool). chain t (spareClear b store) (axiomsInLimit b (inForce b store)) (outputFits b store (length output))) e)
+  unfolding storeChecks askStore
+  stops-10 e = stopped 10 (ask-no 10 0 _ e)
 
   pub stops-13 : storeFits b (length store) ≡ true → spareClear b store ≡ false → ByOutcome b store output (storeChecks b store (length output)) (Refused 13 0) output
-  unfolding chain ask
-  stops-13 t e =
-      stopped 13
-      (asked
-      ∙ ap (λ (x : Bool). chain x (spareClear b store) (axiomsInLimit b (inForce b store)) (outputFits b store (length output))) t
-      ∙ ap (λ (x : Bool). chain true x (axiomsInLimit b (inForce b store)) (outputFits b store (length output))) e)
+  unfolding storeChecks askStore askSpare
+  stops-13 t e = stopped 13 (ask-yes 10 0 _ t ∙ ask-no 13 0 _ e)
 
   pub stops-14 : storeFits b (length store) ≡ true → spareClear b store ≡ true → axiomsInLimit b (inForce b store) ≡ false → ByOutcome b store output (storeChecks b store (length output)) (Refused 14 0) output
-  unfolding chain ask
-  stops-14 t u e =
-      stopped 14
-      (asked
-      ∙ ap (λ (x : Bool). chain x (spareClear b store) (axiomsInLimit b (inForce b store)) (outputFits b store (length output))) t
-      ∙ ap (λ (x : Bool). chain true x (axiomsInLimit b (inForce b store)) (outputFits b store (length output))) u
-      ∙ ap (λ (x : Bool). chain true true x (outputFits b store (length output))) e)
+  unfolding storeChecks askStore askSpare askLimit
+  stops-14 t u e = stopped 14 (ask-yes 10 0 _ t ∙ ask-yes 13 0 _ u ∙ ask-no 14 0 _ e)
 
   module _ (t : storeFits b (length store) ≡ true) (u : spareClear b store ≡ true) (v : axiomsInLimit b (inForce b store) ≡ true) where
-    last : storeChecks b store (length output) ≡ ask (outputFits b store (length output)) 20 0 accepted
-    unfolding chain ask
-    last =
-        asked
-        ∙ ap (λ (x : Bool). chain x (spareClear b store) (axiomsInLimit b (inForce b store)) (outputFits b store (length output))) t
-        ∙ ap (λ (x : Bool). chain true x (axiomsInLimit b (inForce b store)) (outputFits b store (length output))) u
-        ∙ ap (λ (x : Bool). chain true true x (outputFits b store (length output))) v
+    pub asks-20 : storeChecks b store (length output) ≡ ask (outputFits b store (length output)) 20 0 accepted
+    unfolding storeChecks askStore askSpare askLimit
+    asks-20 = ask-yes 10 0 _ t ∙ ask-yes 13 0 _ u ∙ ask-yes 14 0 _ v
 
     pub stops-20 : outputFits b store (length output) ≡ false → ByOutcome b store output (storeChecks b store (length output)) (Refused 20 0) output
-    unfolding ask
-    stops-20 e = stopped 20 (last ∙ ap (λ (x : Bool). ask x 20 0 accepted) e)
+    stops-20 e = stopped 20 (asks-20 ∙ ask-no 20 0 accepted e)
 
     pub writes-all : outputFits b store (length output) ≡ true → (k : ℕ) (output' : List ℕ) → k ≡ length (written b (inForce b store)) → output' ≡ written b (inForce b store) ++ drop k output → ByOutcome b store output (storeChecks b store (length output)) (Length k) output'
-    unfolding ask
     writes-all e k output' long is =
-        subst (λ (o : Outcome). ByOutcome b store output o (Length k) output') (sym (last ∙ ap (λ (x : Bool). ask x 20 0 accepted) e))
+        subst (λ (o : Outcome). ByOutcome b store output o (Length k) output') (sym (asks-20 ∙ ask-yes 20 0 accepted e))
         (subst (λ (j : ℕ). ByOutcome b store output accepted (Length j) output') (sym long)
         (wrote (is ∙ ap (λ (j : ℕ). written b (inForce b store) ++ drop j output) long)))
 
