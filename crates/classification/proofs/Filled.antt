@@ -1,19 +1,15 @@
 -- A store put together: axiom rows copied to its front, and a closed block behind them.
 use Prim.Native.Nat.{ℕ, _+_, _-_, _*_, _≤_}
 use native.Mathlib.Nat.{add-mul}
-use native.Mathlib.Decide.{decLt}
 use native.Mathlib.Omega.{arith}
 use mathlib.Core.Path.{_≡_, refl, sym, ap, ap₂, _∙_, subst, fun-ext}
-use mathlib.Core.Bool.{Bool, true, false, _&&_, _||_, and-false}
 use mathlib.Core.List.{List, [], _++_, append-nil}
-use lib.Dec.{ltb}
 use lib.ListN.{length, take, drop, replicate, take-append-drop, length-append, length-take, length-drop, drop-of-length-le}
 use lib.Seq.{take-all, take-at, drop-at, drop-drop, length-take-le}
 use borrow.Rule.Slice.PartMut.{putMid, midOf, postOf, take-put, post-is}
 use Rattle.catalogue.specs.Header.{concepts, roles}
 use Rattle.catalogue.specs.WellFormed.{WellFormed}
-use Rattle.rows.specs.Bits.{bit, countBits, Bytes, place}
-use Rattle.rows.proofs.Bits.{bit-past}
+use Rattle.rows.specs.Bits.{countBits, Bytes}
 use Rattle.derivation.specs.Decided.{Decides}
 use Rattle.rules.specs.Axioms.{Axioms, catalogueAxioms}
 use Rattle.rules.specs.Rules.{Closure}
@@ -24,15 +20,13 @@ use Rattle.layout.specs.Layout.{shapeOf, table, marks, tableLength, blockLength
 use Rattle.layout.specs.Parts.{width, used, workUsed, axiomRows, setRows, inForce, held}
 use Rattle.store.specs.Fresh.{Fresh}
 use Rattle.layout.proofs.StoreSizes.{used-split, work-is-block, table-long, block-long, used-limit, table-limit}
-use Rattle.layout.proofs.StoreRows.{bit-front}
-use Rattle.classification.specs.AxiomRows.{MarksAxioms}
 use Rattle.classification.specs.Classified.{UsedParts}
 use Rattle.closing.specs.Closing.{Closes}
 use Rattle.rules.proofs.Bounds.{closure-bounded}
 use Rattle.store.proofs.Stored.{marks-fresh}
 use Rattle.classification.proofs.Counted.{pairs-size, links-size}
 
--- How the store came about: `rows` copied to the front of it, and then `set` put in their place behind them.
+-- How the store came about: `rows` put at the front of it, and then `set` in its place behind them.
 pub record FilledFrom (b rows set work store copied filled : List ℕ) (s : Shape) : Type 0 where
   pub well-formed : WellFormed b
   pub long : length store ≡ used b
@@ -163,27 +157,6 @@ store-filled b rows set work store copied filled s e =
     subst (λ (x : Shape). FilledFrom b rows set work store copied filled x → FilledTo b work store filled x) (sym e) (at-shape b rows set work store copied filled)
 
 -- ---- what the parts of a store that is filled ask
-
--- A prefix of a clear buffer has no marks.
-pub clear-table : (s : Shape) (k : ℕ) (l : List ℕ) → ((i : ℕ) → bit l i ≡ false) → (c d : ℕ) → table s (take k l) c d ≡ false
-unfolding table
-clear-table s k l clear c d =
-    ap (λ (x : Bool). ltb c (s .concepts) && (ltb d (8 * s .width) && x)) (bit-take (place (s .width) c d)) ∙ nothing (ltb c (s .concepts)) (ltb d (8 * s .width))
-  where
-    nothing : (p q : Bool) → (p && (q && false)) ≡ false
-    nothing true q = and-false q
-    nothing false q = refl
-
-    bit-take : (i : ℕ) → bit (take k l) i ≡ false
-    bit-take i =
-        elim (decLt i (8 * k)) [
-          | yes h ↦ bit-front l k i h ∙ clear i
-          | no g ↦ bit-past (take k l) i (omega (arith, length-take k l))
-        ]
-
--- The axioms of the catalogue, put into a clear table.
-pub catalogue-table : (b : List ℕ) (s : Shape) (k : ℕ) (l rows : List ℕ) → ((i : ℕ) → bit l i ≡ false) → MarksAxioms b s (take k l) rows → (c d : ℕ) → table s rows c d ≡ catalogueAxioms b c d
-catalogue-table b s k l rows clear m c d = m c d ∙ ap (λ (x : Bool). x || catalogueAxioms b c d) (clear-table s k l clear c d)
 
 pub shaped : {b store work : List ℕ} {s : Shape} → UsedParts b store work → s ≡ shapeOf b → Shaped b s
 shaped p e = record { well-formed = p .well-formed; is = e }

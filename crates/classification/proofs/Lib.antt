@@ -6,6 +6,7 @@ pub mod Sums
 pub mod Counted
 pub mod AxiomTable
 pub mod Filled
+pub mod Putting
 pub mod Answers
 pub mod Refusals
 pub mod Outcomes

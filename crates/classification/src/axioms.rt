@@ -1,11 +1,14 @@
 // The catalogue's axioms as a table of rows, by left side.
+use bytes::copy;
 use catalogue::Axiom;
 use layout::Shape;
 use rows::put_in_row;
+use steps::clear;
 ghost use mathlib.Core.Path.{_≡_};
+ghost use Prim.Native.Nat.{_≤_};
 ghost use lib.ListN.{length};
 ghost use Rattle.layout.specs.Layout.{Shaped, tableLength};
-ghost use Rattle.classification.specs.AxiomRows.{MarksAxioms};
+ghost use Rattle.classification.specs.AxiomRows.{MarksAxioms, PutsAxioms};
 
 // Marks each axiom of the catalogue.
 pub fn axiom_rows(b: &[u8], s: Shape, table: &mut [u8])
@@ -20,4 +23,15 @@ pub fn axiom_rows(b: &[u8], s: Shape, table: &mut [u8])
         put_in_row(table, w, axiom.left, axiom.right);
         k += 1;
     }
+}
+
+// Marks each axiom of the catalogue in its own row of the store, whatever the axiom rows held, and copies them to a table.
+pub fn put_axioms(b: &[u8], s: Shape, store: &mut [u8], table: &mut [u8])
+    requires { ⌜ Shaped (now b) s × (tableLength s ≤ length (now store)) × (length (now table) ≡ tableLength s) ⌝ }
+    ensures { λ _. ⌜ PutsAxioms (now (b .entry)) s (now (store .entry)) (now (store .exit)) (now (table .exit)) ⌝ }
+{
+    let end = table.len();
+    clear(&mut store[..end]);
+    axiom_rows(b, s, &mut store[..end]);
+    copy(&store[..end], table);
 }

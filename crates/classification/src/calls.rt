@@ -1,9 +1,8 @@
 // Classify: questions 1 to 11, and then the store and the work space filled.
 use super::Classified;
-use super::axioms::axiom_rows;
+use super::axioms::put_axioms;
 use super::buffers::table;
 use super::lending::run;
-use bytes::copy;
 use catalogue::Verdict;
 use catalogue::check;
 use layout::Shape;
@@ -27,8 +26,7 @@ fn fill(b: &[u8], store: &mut [u8], work: &mut [u8]) -> Classified
     let links = pairs + pairs;
     let end = store.len();
     let mut axioms = table();
-    axiom_rows(b, s, &mut axioms[..pairs]);
-    copy(&axioms[..pairs], store);
+    put_axioms(b, s, store, &mut axioms[..pairs]);
     run(b, s, &axioms[..pairs], &mut store[pairs..end], work);
     let pair_count = count(&store[pairs..links]);
     let link_count = count(&store[links..end]);
