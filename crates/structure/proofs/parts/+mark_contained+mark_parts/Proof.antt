@@ -1,16 +1,15 @@
 -- `parts::mark_contained` and `parts::mark_parts`, which call each other, meet their contracts. A concept is marked and then its parts, which have
 -- smaller numbers, so the measures are 2i + 1 and 2i. What each step adds (Marking) is together what the concept contains.
-use Prim.Native.Nat.{ℕ, _+_, _≤_, _<_}
+use Prim.Native.Nat.{ℕ, _+_, _<_}
 use native.Mathlib.Omega.{arith}
-use mathlib.Core.Path.{_≡_, refl, sym, subst, _∙_}
+use mathlib.Core.Path.{refl, sym, subst, _∙_}
 use borrow.Author.Needs.{needs}
 use borrow.Fn.Kinds.{In}
 use borrow.Fn.PlainCycle.{Measures, is, falls, and}
-use Rattle.catalogue.specs.Records.{kind, first, second}
 use Rattle.catalogue.proofs.Bounds.{concept-within}
 use Rattle.structure.specs.Parts.{Contains}
-use Rattle.structure.specs.Marks.{MarksMore, ClosedBelow}
-use Rattle.structure.proofs.Marking.{adds-put, closed-less, closed-adds, closed-put, conjunction-parts, existential-parts, no-parts, contained, contained-already, markable-below}
+use Rattle.structure.specs.Marks.{MarksMore}
+use Rattle.structure.proofs.Marking.{adds-put, closed-adds, closed-put, conjunction-parts, existential-parts, no-parts, contained, contained-already, markable-below}
 use Rattle.structure.proofs.parts.mark_contained.Reads as mark-contained
 use Rattle.structure.proofs.parts.mark_contained.Kinds as mark-contained-kinds
 use Rattle.structure.proofs.parts.+mark_contained+mark_parts.Lts-mark_contained as mark-contained-lts
@@ -75,8 +74,8 @@ mark-contained-mark-parts-requires t c κs =
     let put = c .before .before .before .put in
     let row = s .args .row .now in
     let a = adds-put row (put .last .0) (s .args .i) (omega (arith, p .within, p .room)) (put .ensures) in
-    let closed = closed-put row (put .last .0) (closed-less row (omega arith) (p .closed)) a in
-    (omega (arith, s .pre .0), (markable-below (put .last .0) p (omega arith) (put .kept .0) closed, omega (arith, p .within)))
+    let closed = closed-put row (put .last .0) (omega arith) (p .closed) a in
+    (omega (arith, s .pre .0), (markable-below (put .last .0) p (omega arith) (omega arith) closed (put .kept .0), omega (arith, p .within)))
 
 mark-contained-same-length-2 : (t : ℕ) → mark-contained-lts.Need-same-length-2 (marking t) (mark-contained-at t) mark-contained.Post
 mark-contained-same-length-2 t c = search needs
@@ -101,7 +100,7 @@ mark-parts-mark-contained-requires t c κs =
     let m = s .pre .1 .0 in
     let d = c .before .before .at .ensures in
     let l = m .catalogue .conjuncts (s .args .i) (s .pre .1 .1) (sym (d .kind-is) ∙ c .before .if1 .taken) in
-    (omega (arith, s .pre .0, l, d), markable-below (s .args .row .now) m (omega (arith, l, d)) refl (closed-less (s .args .row .now) (omega (arith, l, d)) (m .closed)))
+    (omega (arith, s .pre .0, l, d), markable-below (s .args .row .now) m (omega (arith, l, d)) (omega (arith, l, d)) (m .closed) refl)
 
 mark-parts-mark-contained-requires-2 : (t : ℕ) → mark-parts-lts.Need-mark-contained-requires-2 (reading t) (mark-parts-at t) mark-parts.Post
 mark-parts-mark-contained-requires-2 t c κs =
@@ -110,7 +109,7 @@ mark-parts-mark-contained-requires-2 t c κs =
     let d = c .before .before .before .before .before .before .at .ensures in
     let l = m .catalogue .conjuncts (s .args .i) (s .pre .1 .1) (sym (d .kind-is) ∙ c .before .before .before .before .before .if1 .taken) in
     let w = c .before .before .before .mark-contained in
-    (omega (arith, s .pre .0, l, d), markable-below (w .last .1 .1 .0) m (omega (arith, l, d)) (w .kept .1 .1 .0) (closed-adds (s .args .row .now) (w .last .1 .1 .0) (closed-less (s .args .row .now) (omega (arith, l, d)) (m .closed)) (w .ensures)))
+    (omega (arith, s .pre .0, l, d), markable-below (w .last .1 .1 .0) m (omega (arith, l, d)) (omega (arith, l, d)) (closed-adds (s .args .row .now) (w .last .1 .1 .0) (m .closed) (w .ensures)) (w .kept .1 .1 .0))
 
 mark-parts-mark-contained-requires-3 : (t : ℕ) → mark-parts-lts.Need-mark-contained-requires-3 (reading t) (mark-parts-at t) mark-parts.Post
 mark-parts-mark-contained-requires-3 t c κs =
@@ -118,7 +117,7 @@ mark-parts-mark-contained-requires-3 t c κs =
     let m = s .pre .1 .0 in
     let d = c .before .before .before .at .ensures in
     let l = m .catalogue .existential (s .args .i) (s .pre .1 .1) (sym (d .kind-is) ∙ c .before .if2 .taken) in
-    (omega (arith, s .pre .0, l, d), markable-below (s .args .row .now) m (omega (arith, l, d)) refl (closed-less (s .args .row .now) (omega (arith, l, d)) (m .closed)))
+    (omega (arith, s .pre .0, l, d), markable-below (s .args .row .now) m (omega (arith, l, d)) (omega (arith, l, d)) (m .closed) refl)
 
 mark-parts-same-length : (t : ℕ) → mark-parts-lts.Need-same-length (reading t) (mark-parts-at t) mark-parts.Post
 mark-parts-same-length t c = search needs
