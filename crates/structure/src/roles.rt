@@ -1,4 +1,5 @@
 // Role reach: the square of marks, closed by Warshall's algorithm.
+use catalogue::Concept;
 use catalogue::Inclusion;
 use catalogue::inclusions;
 ghost use mathlib.Core.Path.{_≡_};
@@ -16,7 +17,7 @@ fn reflexive() -> [[bool; 16]; 16]
 {
     let mut square = [[false; 16]; 16];
     let mut role = 0;
-    while role < 16 {
+    while role < Concept::ROLES {
         square[role][role] = true;
         role += 1;
     }
@@ -49,7 +50,7 @@ fn row_through(square: [[bool; 16]; 16], k: usize, r: usize) -> [bool; 16]
 {
     let mut row = [false; 16];
     let mut s = 0;
-    while s < 16 {
+    while s < Concept::ROLES {
         row[s] = square[r][s] | (square[r][k] & square[k][s]);
         s += 1;
     }
@@ -63,7 +64,7 @@ fn through(square: [[bool; 16]; 16], k: usize) -> [[bool; 16]; 16]
 {
     let mut next = [[false; 16]; 16];
     let mut r = 0;
-    while r < 16 {
+    while r < Concept::ROLES {
         let row = row_through(square, k, r);
         next[r] = row;
         r += 1;
@@ -78,7 +79,7 @@ pub fn close_roles(b: &[u8]) -> [[bool; 16]; 16]
 {
     let mut square = included(b);
     let mut k = 0;
-    while k < 16 {
+    while k < Concept::ROLES {
         let next = through(square, k);
         square = next;
         k += 1;
