@@ -4,5 +4,6 @@ pub mod roles; // roles.rt: the square of role reach, and its one reader
 
 pub use parts::contains;
 pub use parts::mark_parts;
+pub use roles::Square;
 pub use roles::close_roles;
 pub use roles::reaches;

@@ -10,12 +10,15 @@ ghost use Rattle.catalogue.specs.Header as header;
 ghost use Rattle.catalogue.specs.WellFormed.{WellFormed};
 ghost use Rattle.structure.specs.Square.{mark, Included, Sized, MarksExactly, markThrough, Through, Closed};
 
+// A square of marks, role by role.
+pub type Square = [[bool; Concept::ROLES]; Concept::ROLES];
+
 // Each role reaches itself.
-fn reflexive() -> [[bool; 16]; 16]
+fn reflexive() -> Square
     ensures { λ square. ⌜ Sized square ⌝ }
     ensures { λ square. ⌜ MarksExactly (λ (r s : ℕ). r ≡ s) square ⌝ }
 {
-    let mut square = [[false; 16]; 16];
+    let mut square = [[false; Concept::ROLES]; Concept::ROLES];
     let mut role = 0;
     while role < Concept::ROLES {
         square[role][role] = true;
@@ -25,7 +28,7 @@ fn reflexive() -> [[bool; 16]; 16]
 }
 
 // Each role reaches itself and the roles around it.
-fn included(b: &[u8]) -> [[bool; 16]; 16]
+fn included(b: &[u8]) -> Square
     requires { ⌜ WellFormed (now b) ⌝ }
     ensures { λ square. ⌜ MarksExactly (Included (now (b .entry)) (header.inclusions (now (b .entry)))) square ⌝ }
 {
@@ -43,12 +46,12 @@ fn included(b: &[u8]) -> [[bool; 16]; 16]
 }
 
 // Row r with what it reaches by way of role k.
-fn row_through(square: [[bool; 16]; 16], k: usize, r: usize) -> [bool; 16]
+fn row_through(square: Square, k: usize, r: usize) -> [bool; Concept::ROLES]
     requires { ⌜ k < 16 ⌝ }
     requires { ⌜ r < 16 ⌝ }
     ensures { λ row. ⌜ ((s : ℕ) → s < 16 → getD row s false ≡ markThrough k square r s) ⌝ }
 {
-    let mut row = [false; 16];
+    let mut row = [false; Concept::ROLES];
     let mut s = 0;
     while s < Concept::ROLES {
         row[s] = square[r][s] | (square[r][k] & square[k][s]);
@@ -58,11 +61,11 @@ fn row_through(square: [[bool; 16]; 16], k: usize, r: usize) -> [bool; 16]
 }
 
 // The square with what is reached by way of role k.
-fn through(square: [[bool; 16]; 16], k: usize) -> [[bool; 16]; 16]
+fn through(square: Square, k: usize) -> Square
     requires { ⌜ k < 16 ⌝ }
     ensures { λ next. ⌜ Through k square next ⌝ }
 {
-    let mut next = [[false; 16]; 16];
+    let mut next = [[false; Concept::ROLES]; Concept::ROLES];
     let mut r = 0;
     while r < Concept::ROLES {
         let row = row_through(square, k, r);
@@ -73,7 +76,7 @@ fn through(square: [[bool; 16]; 16], k: usize) -> [[bool; 16]; 16]
 }
 
 // The square of role reach, closed once for a call.
-pub fn close_roles(b: &[u8]) -> [[bool; 16]; 16]
+pub fn close_roles(b: &[u8]) -> Square
     requires { ⌜ WellFormed (now b) ⌝ }
     ensures { λ square. ⌜ Closed (now (b .entry)) square ⌝ }
 {
@@ -88,7 +91,7 @@ pub fn close_roles(b: &[u8]) -> [[bool; 16]; 16]
 }
 
 // Does role r reach role s? Reach is read here alone.
-pub fn reaches(square: &[[bool; 16]; 16], r: usize, s: usize) -> bool
+pub fn reaches(square: &Square, r: usize, s: usize) -> bool
     requires { ⌜ r < 16 ⌝ }
     requires { ⌜ s < 16 ⌝ }
     ensures { λ a. ⌜ a ≡ mark (now (square .entry)) r s ⌝ }

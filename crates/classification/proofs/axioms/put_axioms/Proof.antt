@@ -40,12 +40,13 @@ axiom-rows-requires c κs =
     let entry = c .before .before .before .before .before .before .before .before in
     let cleared = c .before .before .before .clear in
     let k = length (entry .args .table .now) in
-    let fits : k ≤ length (entry .args .store .now) = omega (arith, entry .pre .1, entry .pre .2) in
-    (entry .pre .0,
-    ap length (front-of k (length (entry .args .store .now)) (cleared .last .0) (entry .args .store .now) (cleared .kept .0) refl fits)
-    ∙ cleared .kept .0
-    ∙ sym (prefix-long k (length (entry .args .store .now)) (entry .args .store .now) refl fits)
-    ∙ entry .pre .2)
+    let fits : k ≤ length (entry .args .store .now) = omega (arith, entry .pre .1, entry .pre .2) in (
+      entry .pre .0,
+      ap length (front-of k (length (entry .args .store .now)) (cleared .last .0) (entry .args .store .now) (cleared .kept .0) refl fits)
+          ∙ cleared .kept .0
+          ∙ sym (prefix-long k (length (entry .args .store .now)) (entry .args .store .now) refl fits)
+          ∙ entry .pre .2,
+    )
 
 slice-reshare-prefix-copy : tie.Need-slice-reshare-prefix-copy
 slice-reshare-prefix-copy c = search needs
