@@ -22,6 +22,13 @@ pub fn own_rows() -> [u8; 1088]
     [0u8; 1088]
 }
 
+// The rows of one partition for each role.
+pub fn role_rows() -> [u8; 17408]
+    ensures { λ r. ⌜ Zero 17408 r ⌝ }
+{
+    [0u8; 17408]
+}
+
 // A row for each concept.
 pub fn table() -> [u8; 32768]
     ensures { λ r. ⌜ Zero 32768 r ⌝ }
