@@ -28,6 +28,7 @@ pub const PROGRAMS: &[(&str, Output)] = &[
     ("store_check", fixed::store_check),
     ("closure_check", programs::closure_check),
     ("lookups_check", programs::lookups_check),
+    ("gate_calls", programs::gate_calls),
 ];
 
 /// Writes the input of every program crate below `root` whose input is made

@@ -1,6 +1,8 @@
 //! Inputs of programs: what `crates/NAME/stdin` holds, made of built-in
 //! catalogues and of those in `data/`.
 
+use crate::calls;
+use crate::catalogue::{Catalogue, Concept};
 use crate::examples;
 use std::fs;
 use std::io;
@@ -18,6 +20,7 @@ pub const PROGRAMS: &[(&str, Input)] = &[
     ("listing_refused", |data| catalogue(data, "w1-unsorted")),
     ("listing_wide", |data| catalogue(data, "wide")),
     ("closure_check", closure_cases),
+    ("gate_calls", call_cases),
 ];
 
 /// All of a buffer.
@@ -60,8 +63,151 @@ fn closure_cases(data: &Path) -> io::Result<Vec<u8>> {
     Ok(input)
 }
 
-/// The bytes of a catalogue: a faulty variant of `w1`, a built-in one, or
-/// `NAME.bin` in the folder.
+/// The numbers of entries of an answer that are lent.
+const NONE: &[u16] = &[0];
+const FOUR: &[u16] = &[4];
+const EVERY: &[u16] = &[0, 1, 2, 3, 4, 6];
+
+/// A case of gate_calls: the call, by its number in the program, and two
+/// concepts; numbers of entries, one case for each; the bytes of the store and
+/// of the other buffer that are lent; a catalogue, and the store to be read.
+type CallCase = (
+    u16,
+    [u16; 2],
+    &'static [u16],
+    [u16; 2],
+    &'static str,
+    &'static str,
+);
+
+const CALL_CASES: &[CallCase] = &[
+    // write
+    (0, [0, 0], NONE, [0, 100], "w1", "w1"),
+    (0, [0, 0], NONE, [0, 80], "w1", "w1"),
+    (0, [0, 0], NONE, [0, 79], "w1", "w1"),
+    (0, [0, 0], NONE, [0, 0], "w1", "w1"),
+    (0, [0, 0], NONE, [0, 68], "w1", "w8"),
+    (0, [0, 0], NONE, [0, 67], "w1", "w8"),
+    (0, [0, 0], NONE, [0, 90], "w8", "w1"),
+    (0, [0, 0], NONE, [0, 90], "w8", "w8"),
+    (0, [0, 0], NONE, [0, 90], "w1", "w6"),
+    (0, [0, 0], NONE, [0, 90], "w9", "w9"),
+    (0, [0, 0], NONE, [0, 90], "w1", "w1-cut"),
+    (0, [0, 0], NONE, [0, 0], "w1", "w1-stray"),
+    (0, [0, 0], NONE, [0, u16::MAX], "w10-bare", "w10"),
+    (0, [0, 0], NONE, [0, 16_793], "w10-bare", "w10"),
+    (0, [0, 0], NONE, [0, 0], "w10-bare", "w10-over"),
+    (0, [0, 0], NONE, [0, 90], "w1-cut", "w1"),
+    (0, [0, 0], NONE, [0, 90], "w1-fields", "w1"),
+    (0, [0, 0], NONE, [0, 90], "w1-unsorted", "w1"),
+    // row_and_answer
+    (1, [0, 0], NONE, [0, 0], "w1", "w1"),
+    (1, [1, 0], NONE, [0, 0], "w1", "w1"),
+    (1, [6, 0], NONE, [0, 0], "w1", "w1"),
+    (1, [7, 0], NONE, [0, 0], "w1", "w1"),
+    (1, [0, 0], NONE, [0, 0], "w1", "w8"),
+    (1, [0, 0], NONE, [0, 0], "w9", "w9"),
+    (1, [7, 0], NONE, [0, 0], "w9", "w9"),
+    (1, [63, 0], NONE, [0, 0], "w10-bare", "w10"),
+    (1, [0, 0], NONE, [0, 0], "w1", "w1-cut"),
+    (1, [0, 0], NONE, [0, 0], "w1", "w1-stray"),
+    (1, [65, 0], NONE, [0, 0], "w10-bare", "w10-over"),
+    (1, [0, 0], NONE, [0, 0], "w1-cut", "w1"),
+    (1, [0, 0], NONE, [0, 0], "w1-fields", "w1"),
+    (1, [0, 0], NONE, [0, 0], "w1-unsorted", "w1"),
+    // classify
+    (2, [0, 0], EVERY, [35, 28], "w1", ""),
+    (2, [0, 0], EVERY, [35, 28], "w1-unsorted", ""),
+    (2, [0, 0], FOUR, [40, 40], "w1", ""),
+    (2, [0, 0], FOUR, [34, 27], "w1", ""),
+    (2, [0, 0], FOUR, [35, 27], "w1", ""),
+    (2, [0, 0], FOUR, [35, 28], "w8", ""),
+    (2, [0, 0], FOUR, [40, 32], "w9", ""),
+    (2, [0, 0], FOUR, [0, 0], "w1-cut", ""),
+    (2, [0, 0], FOUR, [35, 28], "w1-fields", ""),
+    // lookup
+    (3, [0, 3], EVERY, [0, 0], "w1", "w1"),
+    (3, [3, 0], EVERY, [0, 0], "w1", "w1"),
+    (3, [0, 3], EVERY, [0, 0], "w1-unsorted", "w1"),
+    (3, [7, 0], FOUR, [0, 0], "w1", "w1"),
+    (3, [0, 7], FOUR, [0, 0], "w1", "w1"),
+    (3, [0, 3], FOUR, [0, 0], "w1", "w8"),
+    (3, [0, 3], FOUR, [0, 0], "w9", "w9"),
+    (3, [0, 7], FOUR, [0, 0], "w9", "w9"),
+    (3, [0, 3], FOUR, [0, 0], "w1", "w1-cut"),
+    (3, [0, 3], FOUR, [0, 0], "w1", "w1-stray"),
+    (3, [65, 0], FOUR, [0, 0], "w10-bare", "w10-over"),
+    // list
+    (4, [0, 3], EVERY, [0, 14], "w1", "w1"),
+    (4, [0, 3], EVERY, [0, 20], "w1-unsorted", "w1"),
+    (4, [0, 6], FOUR, [0, 20], "w1", "w1"),
+    (4, [0, 3], FOUR, [0, 13], "w1", "w1"),
+    (4, [0, 7], FOUR, [0, 14], "w1", "w1"),
+    (4, [0, 3], FOUR, [0, 14], "w1", "w8"),
+    (4, [0, 3], FOUR, [0, 13], "w1", "w1-cut"),
+    (4, [0, 3], FOUR, [0, 13], "w1", "w1-stray"),
+    (4, [0, 3], FOUR, [0, 14], "w1", "w1-stray"),
+    (4, [0, 63], FOUR, [0, 130], "w10-bare", "w10"),
+    (4, [0, 65], FOUR, [0, 130], "w10-bare", "w10-over"),
+    // row
+    (5, [0, 0], EVERY, [0, 0], "w1", "w1"),
+    (5, [0, 0], EVERY, [0, 0], "w1-unsorted", "w1"),
+    (5, [6, 0], FOUR, [0, 0], "w1", "w1"),
+    (5, [7, 0], FOUR, [0, 0], "w1", "w1"),
+    (5, [0, 0], FOUR, [0, 0], "w1", "w8"),
+    (5, [0, 0], FOUR, [0, 0], "w1", "w1-cut"),
+    (5, [0, 0], FOUR, [0, 0], "w1", "w1-stray"),
+    (5, [0, 0], FOUR, [0, 0], "w10-bare", "w10-over"),
+    // write
+    (6, [0, 0], EVERY, [0, 100], "w1", "w1"),
+    (6, [0, 0], EVERY, [0, 100], "w1-unsorted", "w1"),
+    (6, [0, 0], FOUR, [0, 80], "w8", "w1"),
+    (6, [0, 0], FOUR, [0, 79], "w8", "w1"),
+    (6, [0, 0], FOUR, [0, 68], "w1", "w8"),
+    (6, [0, 0], FOUR, [0, 0], "w1", "w1-cut"),
+    (6, [0, 0], FOUR, [0, 0], "w1", "w1-stray"),
+    (6, [0, 0], FOUR, [0, u16::MAX], "w10-bare", "w10"),
+    (6, [0, 0], FOUR, [0, 0], "w10-bare", "w10-over"),
+];
+
+fn call_cases(data: &Path) -> io::Result<Vec<u8>> {
+    let mut input = vec![];
+    for &(call, [c, d], entries, [store, other], name, read) in CALL_CASES {
+        let bytes = catalogue(data, name)?;
+        let read = classified(read);
+        for &entries in entries {
+            let lengths = [bytes.len() as u16, read.len() as u16];
+            let numbers = [call, c, d, entries, store, other, lengths[0], lengths[1]];
+            input.extend(numbers.into_iter().flat_map(u16::to_le_bytes));
+            input.extend(&bytes);
+            input.extend(&read);
+        }
+    }
+    Ok(input)
+}
+
+/// The used part of a store: a built-in catalogue's, classified, or a faulty
+/// variant of it; none where there is no such catalogue.
+fn classified(name: &str) -> Vec<u8> {
+    let (of, fault) = name.split_once('-').unwrap_or((name, ""));
+    let Some(known) = examples::named(of) else {
+        return vec![];
+    };
+    let (_, mut store) = calls::classified(&known.bytes()).expect("a built-in catalogue");
+    let last = store.len() - 1;
+    match fault {
+        "cut" => store.truncate(last),
+        // A bit from n upward, in the last row.
+        "stray" => store[last] |= 128,
+        // One axiom more, with the last concept at its left.
+        "over" => store[(known.concepts.len() - 1) * known.concepts.len().div_ceil(8)] |= 1,
+        _ => {}
+    }
+    store
+}
+
+/// The bytes of a catalogue: a faulty variant of `w1`, `w10` without its
+/// axioms, a built-in one, or `NAME.bin` in the folder.
 fn catalogue(data: &Path, name: &str) -> io::Result<Vec<u8>> {
     let mut w1 = examples::w1();
     match (name, examples::named(name)) {
@@ -69,6 +215,18 @@ fn catalogue(data: &Path, name: &str) -> io::Result<Vec<u8>> {
         ("w1-unsorted", _) => {
             w1.axioms.swap(1, 2);
             Ok(w1.bytes())
+        }
+        ("w1-fields", _) => {
+            w1.concepts[5] = Concept::Existential(3, 2);
+            Ok(w1.bytes())
+        }
+        ("w10-bare", _) => {
+            let w10 = examples::w10();
+            Ok(Catalogue {
+                axioms: vec![],
+                ..w10
+            }
+            .bytes())
         }
         (_, Some(known)) => Ok(known.bytes()),
         (_, None) => fs::read(data.join(name).with_extension("bin")),

@@ -11,6 +11,7 @@
 //! - `change`: over-deletion, repair and addition
 //! - `store`: the bytes of a store
 //! - `calls`: the public calls, each with its checks in order
+//! - `exports`: those that C and Rust call
 //! - `listing`: the text of the listing program
 //! - `programs`, `fixed`: the text of the check programs
 //! - `checksum`: the checksum that they print
@@ -25,6 +26,7 @@ pub mod change;
 pub mod checksum;
 pub mod examples;
 pub mod expected;
+pub mod exports;
 pub mod expressions;
 pub mod fixed;
 pub mod inputs;

@@ -4,6 +4,7 @@
 use crate::calls;
 use crate::catalogue::{Catalogue, Refusal};
 use crate::checksum::fnv1a;
+use crate::exports;
 use crate::store::Layout;
 
 /// The buffers of closure_check: the longest that a catalogue asks for.
@@ -128,4 +129,65 @@ fn row(catalogue: &[u8], c: usize, store: &[u8]) -> String {
         }
         Err(refusal) => refused(refusal) + " ",
     }
+}
+
+/// The buffers of gate_calls: the store that is classified into, and the work
+/// space, list or output.
+const CALLS_STORE_LENGTH: usize = 4_096;
+const CALLS_OTHER_LENGTH: usize = 65_536;
+
+/// The answers of write, row_and_answer and the exported calls, with checksums
+/// of the buffers.
+pub fn gate_calls(input: &[u8]) -> String {
+    let mut input = Input(input);
+    let mut lines = String::new();
+    while !input.0.is_empty() {
+        let [call, c, d, entries, store_lent, other_lent, catalogue, read] =
+            [(); 8].map(|()| input.number(2));
+        let mut store = vec![165; CALLS_STORE_LENGTH];
+        let mut other = vec![90; CALLS_OTHER_LENGTH];
+        let store_lent = &mut store[..store_lent.min(CALLS_STORE_LENGTH)];
+        let other_lent = &mut other[..other_lent];
+        let catalogue = input.bytes(catalogue);
+        let read = input.bytes(read);
+        lines += &match call {
+            0 => written(catalogue, read, other_lent),
+            1 => row_and_answer(catalogue, c, read),
+            _ => replied(entries, |answer| match call {
+                2 => exports::classify(catalogue, store_lent, other_lent, answer),
+                3 => exports::lookup(catalogue, c, d, read, answer),
+                4 => exports::list(catalogue, d, read, other_lent, answer),
+                5 => exports::row(catalogue, c, read, answer),
+                _ => exports::write(catalogue, read, other_lent, answer),
+            }),
+        };
+        lines += &format!(" store {} other {}\n", fnv1a(&store), fnv1a(&other));
+    }
+    lines
+}
+
+fn written(catalogue: &[u8], store: &[u8], output: &mut [u8]) -> String {
+    match calls::write(catalogue, store, output) {
+        Ok(length) => format!("length {length}"),
+        Err(refusal) => refused(refusal),
+    }
+}
+
+fn row_and_answer(catalogue: &[u8], c: usize, store: &[u8]) -> String {
+    let (answer, part) = match calls::row(catalogue, c, store) {
+        Ok(row) => (format!("row {} {}", row.offset, row.bytes.len()), row.bytes),
+        Err(refusal) => (refused(refusal), &[][..]),
+    };
+    format!("{answer} part {} {}", part.len(), fnv1a(part))
+}
+
+/// What an exported call returns with so many entries lent of an answer, and
+/// the whole answer.
+fn replied(entries: usize, call: impl FnOnce(&mut [u64]) -> usize) -> String {
+    let mut answer = [99; 6];
+    let returned = call(&mut answer[..entries.min(6)]);
+    format!(
+        "returned {returned} {}",
+        answer.map(|entry| entry.to_string()).join(" ")
+    )
 }

@@ -1,8 +1,10 @@
-// What programs share that run the cases of their input: the input's numbers, buffers filled before a call, and answers in words and numbers.
+// What programs share that run the cases of their input: the input's numbers, the lesser of two, buffers filled before a call,
+// and answers in words, numbers and checksums.
 ghost use mathlib.Core.Path.{_≡_};
-ghost use Prim.Native.Nat.{_+_, _<_};
+ghost use Prim.Native.Nat.{_+_, _≤_, _<_, min};
 ghost use lib.ListN.{length, replicate};
 ghost use Rattle.catalogue.specs.Words as words;
+use checksum::fnv1a;
 use libc::STDOUT_FILENO;
 
 // The number at a byte of the input, in two bytes.
@@ -11,6 +13,13 @@ pub fn short_at(text: &[u8], at: usize) -> usize
     ensures { λ r. ⌜ (r ≡ words.word (now (text .entry)) at) × (r < 65536) ⌝ }
 {
     catalogue::word(text, at)
+}
+
+// The lesser of two numbers.
+pub fn least(a: usize, b: usize) -> usize
+    ensures { λ r. ⌜ (r ≤ b) × (r ≡ min a b) ⌝ }
+{
+    if a < b { a } else { b }
 }
 
 // Fills a buffer with one byte, so that what a call writes shows.
@@ -34,4 +43,10 @@ pub fn say(word: &[u8], number: usize) {
 pub fn say_refused(number: usize, record: usize) {
     say(b"refused ", number);
     say(b" ", record);
+}
+
+// Writes a word and the checksum of some bytes.
+pub fn say_checksum(word: &[u8], bytes: &[u8]) {
+    io::write_all(STDOUT_FILENO, word);
+    io::print_decimal(STDOUT_FILENO, fnv1a(bytes));
 }

@@ -10,7 +10,7 @@ use Rattle.exports.specs.Answers.{Exported}
 
 -- The length, 0, 0, 0.
 abbrev pub writeReply : Wrote → Reply
-writeReply (Length length) = Accepted length 0 0 0
+writeReply (Length long) = Accepted long 0 0 0
 writeReply (Wrote.Refused number at) = Reply.Refused number at
 
 -- The buffer lent is the output.

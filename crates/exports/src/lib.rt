@@ -95,7 +95,7 @@ fn write_reply(wrote: Wrote) -> Reply
     ensures { λ r. ⌜ r ≡ writeReply wrote ⌝ }
 {
     match wrote {
-        Wrote::Length(length) => Reply::Accepted(length, 0, 0, 0),
+        Wrote::Length(long) => Reply::Accepted(long, 0, 0, 0),
         Wrote::Refused(number, at) => Reply::Refused(number, at),
     }
 }

@@ -7,21 +7,16 @@ ghost use Prim.Native.Nat.{_+_, _≤_, _<_};
 ghost use lib.ListN.{length};
 ghost use Rattle.layout.specs.Parts.{Sized};
 use cases::fill;
+use cases::least;
 use cases::say;
+use cases::say_checksum;
 use cases::say_refused;
 use cases::short_at;
-use checksum::fnv1a;
 use classification::Classified;
 use classification::classify;
 use layout::used;
 use libc::STDIN_FILENO;
 use libc::STDOUT_FILENO;
-
-// Writes a word and the checksum of some bytes.
-fn say_checksum(word: &[u8], bytes: &[u8]) {
-    io::write_all(STDOUT_FILENO, word);
-    io::print_decimal(STDOUT_FILENO, fnv1a(bytes));
-}
 
 // Writes the counts of pairs and links, and the checksum of the store's used part.
 fn say_classified(b: &[u8], pairs: usize, links: usize, store: &[u8])
@@ -47,13 +42,6 @@ fn long_at(text: &[u8], at: usize) -> usize
     requires { ⌜ at + 3 < length (now text) ⌝ }
 {
     short_at(text, at) + 65536 * short_at(text, at + 2)
-}
-
-// The lesser of two numbers.
-fn least(a: usize, b: usize) -> usize
-    ensures { λ r. ⌜ r ≤ b ⌝ }
-{
-    if a < b { a } else { b }
 }
 
 // Runs the case at a byte of the input, if the input has all of it, and says where the next one starts.

@@ -17,9 +17,9 @@ pub high-byte : (b : List ℕ) (i : ℕ) → getD b i 0 < 256 → word b i / 256
 unfolding word
 high-byte b i h = omega arith
 
-pub word-fits : (b : List ℕ) (i : ℕ) → getD b i 0 < 256 → getD b (i + 1) 0 < 256 → word b i < 65536
+pub word-fits : (b : List ℕ) (i : ℕ) → ((k : ℕ) → getD b k 0 < 256) → word b i < 65536
 unfolding word
-word-fits b i h h′ = omega arith
+word-fits b i h = omega (arith, h i, h (i + 1))
 
 pub copied-more : (src : List ℕ) (at : ℕ) (dst : List ℕ) (to j : ℕ) → at + j + 2 ≤ length src → to + j + 2 ≤ length dst → getD src (at + j) 0 < 256
     → set (set (copied src at dst to j) (to + j) (word src (at + j) % 256)) (to + j + 1) (word src (at + j) / 256) ≡ copied src at dst to (suc (suc j))

@@ -66,25 +66,26 @@ module _ (b store : List ℕ) (count : ℕ) (out : List ℕ) (fits : CatalogueFi
       ∙ setWord-front (setWord (take (axiomsAt b) b) 0 (axiomsAt b + 4 * count)) (drop (axiomsAt b) out) 10 count
       (subst (λ (k : ℕ). 10 + 1 < k) (sym (length-setWord (take (axiomsAt b) b) 0 (axiomsAt b + 4 * count) ∙ long)) (omega (arith, start-bounds .1)))
 
+  -- The rows fit into any list as long as the output.
+  pub table-fits : (ready : List ℕ) → length ready ≡ length out → TableFits store (concepts b) ((concepts b + 7) / 8) ready (axiomsAt b)
+  unfolding width
+  table-fits ready l =
+      let rows : concepts b * width b ≤ length store = omega (arith, used-split b, table-long b, fits .clear .sized .long) in
+      record {
+        some = wf .some-concept;
+        small = wf .concepts-limit;
+        width-fits = omega arith;
+        width-small = omega (arith, wf .concepts-limit);
+        rows-long = rows;
+        room = omega (arith, same-count, fits .count-is, fits .out-long);
+      }
+
   module _ (ready : List ℕ) (e : ready ≡ counted b count (take (axiomsAt b) b) ++ drop (axiomsAt b) out) where
     length-ready : length ready ≡ axiomsAt b + 4 * count
     length-ready =
         ap length e
         ∙ length-append (counted b count (take (axiomsAt b) b)) (drop (axiomsAt b) out)
         ∙ (let z : length (counted b count (take (axiomsAt b) b)) + length (drop (axiomsAt b) out) ≡ axiomsAt b + 4 * count = omega (arith, length-head, length-drop (axiomsAt b) out, fits .out-long) in z)
-
-    pub table-fits : TableFits store (concepts b) ((concepts b + 7) / 8) ready (axiomsAt b)
-    unfolding width
-    table-fits =
-        let rows : concepts b * width b ≤ length store = omega (arith, used-split b, table-long b, fits .clear .sized .long) in
-        record {
-          some = wf .some-concept;
-          small = wf .concepts-limit;
-          width-fits = omega arith;
-          width-small = omega (arith, wf .concepts-limit);
-          rows-long = rows;
-          room = omega (arith, length-ready, same-count, fits .count-is);
-        }
 
     pub whole : (out' : List ℕ) → WritesTable store (concepts b) ((concepts b + 7) / 8) ready (axiomsAt b) out' → out' ≡ written b (inForce b store)
     unfolding width written axiomRecords axiomCount rising sidesOf bytesOf numbered

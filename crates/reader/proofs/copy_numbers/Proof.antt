@@ -34,11 +34,8 @@ add-put-number c = search needs
 put-number-requires : tie.Need-put-number-requires Inv-loop μ-loop
 put-number-requires c κs =
     let s = c .before .before .before .before .before .before in
-    let i = s .args .at + 2 * c .before .before .before .loop .k in
     let byte = c .before .before .before .before .before .shared-slice-known .given in
-    let low : getD (s .args .src .now) i 0 < 256 = omega (arith, byte i) in
-    let high : getD (s .args .src .now) (i + 1) 0 < 256 = omega (arith, byte (i + 1)) in
-    (omega (arith, c .before .before .loop-test .taken, c .before .before .before .loop .inv .1, s .pre .1), rw (c .before .number-after .ensures) (word-fits (s .args .src .now) i low high))
+    (omega (arith, c .before .before .loop-test .taken, c .before .before .before .loop .inv .1, s .pre .1), rw (c .before .number-after .ensures) (word-fits _ _ (λ i. omega (arith, byte i))))
 
 add-k : tie.Need-add-k Inv-loop μ-loop
 add-k c = search needs

@@ -1,8 +1,7 @@
 -- `writing::put_catalogue` meets its contract: the records before the axioms, the two counts, and the axioms of the rows.
-use mathlib.Core.Path.{_≡_, ap, _∙_}
-use mathlib.Core.List.{List, _++_}
-use Prim.Native.Nat.{ℕ, _+_, _*_, _/_}
-use lib.ListN.{take, drop}
+use mathlib.Core.Path.{_≡_}
+use mathlib.Core.List.{_++_}
+use lib.ListN.{length, take, drop}
 use Rattle.catalogue.specs.Header.{axiomsAt}
 use Rattle.store.specs.Written.{setWord}
 use Rattle.writing.proofs.Whole.{counted, front-is, table-fits, whole}
@@ -35,15 +34,13 @@ put-number-requires-2 : tie.Need-put-number-requires-2
 put-number-requires-2 c κs = search needs
 
 put-table-requires : tie.Need-put-table-requires
-unfolding setWord
 put-table-requires c κs =
-    let a = c .before .before .before .before .before .before .before .before .before .before .before .before .before .before .before .before .before .before .args in
-    let ready : c .before .before .before .put-number2 .last .0 ≡ counted (a .b .now) (a .count) (take (axiomsAt (a .b .now)) (a .b .now)) ++ drop (axiomsAt (a .b .now)) (a .out .now) =
-    rw (c .before .before .before .put-number2 .ensures, c .before .before .before .before .before .before .before .put-number .ensures, c .before .before .before .before .before .before .before .before .before .before .before .copy-numbers .ensures, c .before .before .before .before .before .before .before .before .before .before .before .before .before .before .axioms-at .ensures)
-    (front-is (a .b .now) (a .store .now) (a .count) (a .out .now) (c .before .before .before .before .before .before .before .before .before .before .before .before .before .before .before .before .before .before .pre))
-    in
+    let start = c .before .before .before .before .before .before .before .before .before .before .before .before .before .before .before .before .before .before in
+    let a = start .args in
+    let ready = c .before .before .before .put-number2 .last .0 in
+    let long : length ready ≡ length (a .out .now) = search needs in
     rw (c .before .before .before .before .before .before .before .before .before .before .before .before .before .concepts .ensures, c .before .before .before .before .before .before .before .before .before .before .before .before .before .before .axioms-at .ensures)
-    (table-fits (a .b .now) (a .store .now) (a .count) (a .out .now) (c .before .before .before .before .before .before .before .before .before .before .before .before .before .before .before .before .before .before .pre) (c .before .before .before .put-number2 .last .0) ready)
+    (table-fits (a .b .now) (a .store .now) (a .count) (a .out .now) (start .pre) ready long)
 
 same-length : tie.Need-same-length
 same-length c = search needs

@@ -24,7 +24,7 @@ has-pair-requires c κs =
     let a = c .before .before .before .before .before .args in
     let m : Named (now (a .b)) (a .c ∷ a .d ∷ []) (now (a .store)) = read-named _ _ _ (sym (c .before .before .check-reading .ensures) ∙ ap outcomeOf (c .enum-told .given .1)) in
     let (lc, ld) = named-two _ _ _ _ m in
-    (m .clear .sized, lc, ld)
+    search needs
 
 returns : tie.Need-returns
 returns c = sym (looked-up _ _ _ _ (sym (c .before .before .before .before .check-reading .ensures) ∙ ap outcomeOf (c .before .before .enum-told .given .1)) (sym (c .before .has-pair .ensures) ∙ c .if1 .taken))

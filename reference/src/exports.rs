@@ -1,0 +1,65 @@
+//! The exported calls: each returns a number, and writes four entries of an
+//! answer where it is accepted.
+
+use crate::calls;
+use crate::catalogue::Refusal;
+
+/// How many entries an answer has at least.
+const ENTRIES: usize = 4;
+
+/// Returned where it has fewer.
+const SHORT_ANSWER: usize = 65_535;
+
+/// Runs a call, unless the answer is too short: 0 and the entries where it is
+/// accepted, number + 65,536 · record where it is refused.
+fn exported(answer: &mut [u64], call: impl FnOnce() -> Result<[usize; ENTRIES], Refusal>) -> usize {
+    if answer.len() < ENTRIES {
+        return SHORT_ANSWER;
+    }
+    match call() {
+        Ok(entries) => {
+            answer[..ENTRIES].copy_from_slice(&entries.map(|entry| entry as u64));
+            0
+        }
+        Err(refusal) => refusal.number + 65_536 * refusal.record,
+    }
+}
+
+pub fn classify(catalogue: &[u8], store: &mut [u8], work: &mut [u8], answer: &mut [u64]) -> usize {
+    exported(answer, || {
+        let counts = calls::classify(catalogue, store, work)?;
+        Ok([counts.pairs, counts.links, 0, 0])
+    })
+}
+
+pub fn lookup(catalogue: &[u8], c: usize, d: usize, store: &[u8], answer: &mut [u64]) -> usize {
+    exported(answer, || {
+        let yes = calls::lookup(catalogue, c, d, store)?;
+        Ok([usize::from(yes), 0, 0, 0])
+    })
+}
+
+pub fn list(
+    catalogue: &[u8],
+    d: usize,
+    store: &[u8],
+    list: &mut [u8],
+    answer: &mut [u64],
+) -> usize {
+    exported(answer, || {
+        Ok([calls::listing(catalogue, d, store, list)?, 0, 0, 0])
+    })
+}
+
+pub fn row(catalogue: &[u8], c: usize, store: &[u8], answer: &mut [u64]) -> usize {
+    exported(answer, || {
+        let row = calls::row(catalogue, c, store)?;
+        Ok([row.offset, row.bytes.len(), 0, 0])
+    })
+}
+
+pub fn write(catalogue: &[u8], store: &[u8], output: &mut [u8], answer: &mut [u64]) -> usize {
+    exported(answer, || {
+        Ok([calls::write(catalogue, store, output)?, 0, 0, 0])
+    })
+}
