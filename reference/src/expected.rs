@@ -17,17 +17,17 @@ pub type Output = fn(&[u8]) -> String;
 pub const PROGRAMS: &[(&str, Output)] = &[
     // crate, and what it prints
     ("listing", listing::text),
-    ("listing_empty", listing::text),
-    ("listing_long", listing::text),
-    ("listing_many", listing::text),
-    ("listing_refused", listing::text),
-    ("listing_wide", listing::text),
-    ("rows_check", fixed::rows_check),
-    ("catalogue_check", programs::catalogue_check),
-    ("structure_check", fixed::structure_check),
-    ("store_check", fixed::store_check),
-    ("closure_check", programs::closure_check),
-    ("lookups_check", programs::lookups_check),
+    ("gate_listing_empty", listing::text),
+    ("gate_listing_long", listing::text),
+    ("gate_listing_many", listing::text),
+    ("gate_listing_refused", listing::text),
+    ("gate_listing_wide", listing::text),
+    ("gate_rows", fixed::gate_rows),
+    ("gate_catalogue", programs::gate_catalogue),
+    ("gate_structure", fixed::gate_structure),
+    ("gate_store", fixed::gate_store),
+    ("gate_classification", programs::gate_classification),
+    ("gate_lookups", programs::gate_lookups),
     ("gate_calls", programs::gate_calls),
 ];
 

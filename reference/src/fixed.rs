@@ -26,7 +26,7 @@ fn spaced(numbers: impl IntoIterator<Item = usize>) -> String {
 }
 
 /// Sets of numbers below 24, as rows of three bytes.
-pub fn rows_check(_: &[u8]) -> String {
+pub fn gate_rows(_: &[u8]) -> String {
     let none = BTreeSet::new();
     let put = BTreeSet::from([0, 7, 8, 19]);
     let cleared = BTreeSet::from([0, 19]);
@@ -65,7 +65,7 @@ fn row_text(row: &BTreeSet<usize>) -> String {
 }
 
 /// What contains what, what reaches what, and numbers that a reader finds.
-pub fn structure_check(_: &[u8]) -> String {
+pub fn gate_structure(_: &[u8]) -> String {
     let concepts = (0..512).map(|i| match i {
         0..3 => Concept::Atomic,
         510 => Concept::Existential(1, 0),
@@ -125,7 +125,7 @@ fn reach_text(path: &[usize]) -> String {
 }
 
 /// Questions 10 to 14 of stores, and what occurs by their axioms.
-pub fn store_check(_: &[u8]) -> String {
+pub fn gate_store(_: &[u8]) -> String {
     let w1 = examples::w1();
     let axioms: BTreeSet<Axiom> = w1.axioms.iter().copied().collect();
     let store = store_with(&w1, &axioms);

@@ -14,19 +14,19 @@ pub type Input = fn(&Path) -> io::Result<Vec<u8>>;
 /// The program crates whose input is made here: one line each.
 pub const PROGRAMS: &[(&str, Input)] = &[
     ("listing", |data| catalogue(data, "w1")),
-    ("listing_empty", |_| Ok(vec![])),
-    ("listing_long", |_| Ok(vec![255; 70_000])),
-    ("listing_many", |data| catalogue(data, "bookings-2")),
-    ("listing_refused", |data| catalogue(data, "w1-unsorted")),
-    ("listing_wide", |data| catalogue(data, "wide")),
-    ("closure_check", closure_cases),
+    ("gate_listing_empty", |_| Ok(vec![])),
+    ("gate_listing_long", |_| Ok(vec![255; 70_000])),
+    ("gate_listing_many", |data| catalogue(data, "bookings-2")),
+    ("gate_listing_refused", |data| catalogue(data, "w1-unsorted")),
+    ("gate_listing_wide", |data| catalogue(data, "wide")),
+    ("gate_classification", closure_cases),
     ("gate_calls", call_cases),
 ];
 
 /// All of a buffer.
 const ALL: u32 = u32::MAX;
 
-/// The cases of closure_check: a catalogue, and the bytes of store and of work
+/// The cases of gate_classification: a catalogue, and the bytes of store and of work
 /// space that are lent.
 const CLOSURE_CASES: &[(&str, u32, u32)] = &[
     ("w1", 38, 31),

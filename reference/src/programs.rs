@@ -7,7 +7,7 @@ use crate::checksum::fnv1a;
 use crate::exports;
 use crate::store::Layout;
 
-/// The buffers of closure_check: the longest that a catalogue asks for.
+/// The buffers of gate_classification: the longest that a catalogue asks for.
 const STORE_LENGTH: usize = 589_824;
 const WORK_LENGTH: usize = 557_056;
 
@@ -46,7 +46,7 @@ fn decoded(line: &str) -> Vec<u8> {
 }
 
 /// What questions 1 to 9 answer for each catalogue.
-pub fn catalogue_check(input: &[u8]) -> String {
+pub fn gate_catalogue(input: &[u8]) -> String {
     let text = str::from_utf8(input).expect("digits");
     text.split_terminator('\n')
         .map(|line| match Catalogue::read(&decoded(line)) {
@@ -57,7 +57,7 @@ pub fn catalogue_check(input: &[u8]) -> String {
 }
 
 /// The answers of classify, with checksums of the buffers.
-pub fn closure_check(input: &[u8]) -> String {
+pub fn gate_classification(input: &[u8]) -> String {
     let mut store = vec![165; STORE_LENGTH];
     let mut work = vec![0; WORK_LENGTH];
     let mut input = Input(input);
@@ -87,7 +87,7 @@ fn classified(catalogue: &[u8], store: &mut [u8], work: &mut [u8]) -> String {
 }
 
 /// The answers of lookup, listing and row.
-pub fn lookups_check(input: &[u8]) -> String {
+pub fn gate_lookups(input: &[u8]) -> String {
     let mut input = Input(input);
     let mut lines = String::new();
     while !input.0.is_empty() {

@@ -1,4 +1,4 @@
--- `store_check::fill` meets its contract: the store keeps its length.
+-- `gate_store::fill` meets its contract: the store keeps its length.
 use Prim.Native.Nat.{_-_, _≤_}
 use mathlib.Core.Path.{_≡_, refl}
 use lib.ListN.{length}

@@ -1,4 +1,4 @@
--- `store_check::report` meets its contract: an accepted catalogue is well-formed.
+-- `gate_store::report` meets its contract: an accepted catalogue is well-formed.
 use Rattle.structure.proofs.Acceptance.{verdict-well-formed}
 use borrow.Author.Needs.{needs}
 use Rattle.gate_store.proofs.report.Statement.{statement}

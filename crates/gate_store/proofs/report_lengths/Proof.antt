@@ -1,4 +1,4 @@
--- `store_check::report_lengths` meets its contract.
+-- `gate_store::report_lengths` meets its contract.
 use mathlib.Core.Path.{sym, _∙_}
 use borrow.Author.Tests.{not-false}
 use Rattle.store.proofs.Checks.{store-long}

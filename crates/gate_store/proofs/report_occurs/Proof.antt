@@ -1,4 +1,4 @@
--- `store_check::report_occurs` meets its contract.
+-- `gate_store::report_occurs` meets its contract.
 use Prim.Native.Nat.{ℕ, _+_, _/_}
 use native.Mathlib.Omega.{arith}
 use mathlib.Core.Path.{sym, ap, _∙_}

@@ -1,4 +1,4 @@
--- `store_check::report_row` meets its contract.
+-- `gate_store::report_row` meets its contract.
 use Prim.Native.Nat.{_-_, _≤_}
 use borrow.Author.Needs.{needs}
 use Rattle.gate_store.proofs.report_row.Statement.{statement}

@@ -1,4 +1,4 @@
--- `store_check::report_short` meets its contract.
+-- `gate_store::report_short` meets its contract.
 use mathlib.Core.Path.{sym}
 use native.Mathlib.Omega.{arith}
 use lib.Seq.{length-take-le}

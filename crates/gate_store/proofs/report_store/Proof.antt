@@ -1,4 +1,4 @@
--- `store_check::report_store` meets its contract.
+-- `gate_store::report_store` meets its contract.
 use mathlib.Core.Path.{sym, _∙_}
 use native.Mathlib.Omega.{arith}
 use borrow.Author.Tests.{not-false}

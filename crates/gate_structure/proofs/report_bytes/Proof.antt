@@ -1,4 +1,4 @@
--- `structure_check::report_bytes` meets its contract. The loop's invariant: k is at most 8.
+-- `gate_structure::report_bytes` meets its contract. The loop's invariant: k is at most 8.
 use Prim.Native.Nat.{_-_, _≤_}
 use borrow.Author.Needs.{needs}
 use Rattle.gate_structure.proofs.report_bytes.Statement.{statement}

@@ -1,4 +1,4 @@
--- `structure_check::report_contains` meets its contract: an accepted catalogue is well-formed.
+-- `gate_structure::report_contains` meets its contract: an accepted catalogue is well-formed.
 use native.Mathlib.Omega.{arith}
 use Rattle.catalogue.specs.WellFormed.{WellFormed}
 use Rattle.catalogue.proofs.Bounds.{header-within}

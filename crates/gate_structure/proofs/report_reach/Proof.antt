@@ -1,4 +1,4 @@
--- `structure_check::report_reach` meets its contract: an accepted catalogue is well-formed.
+-- `gate_structure::report_reach` meets its contract: an accepted catalogue is well-formed.
 use Rattle.catalogue.specs.WellFormed.{WellFormed}
 use Rattle.structure.proofs.Acceptance.{verdict-well-formed}
 use Rattle.catalogue.proofs.Bounds.{header-within}

@@ -1,4 +1,4 @@
--- `structure_check::report_row` meets its contract. The loop's invariant: s is at most m.
+-- `gate_structure::report_row` meets its contract. The loop's invariant: s is at most m.
 use Prim.Native.Nat.{_-_, _≤_}
 use borrow.Author.Needs.{needs}
 use Rattle.gate_structure.proofs.report_row.Statement.{statement}

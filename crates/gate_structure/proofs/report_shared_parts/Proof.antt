@@ -1,4 +1,4 @@
--- `structure_check::report_shared_parts` meets its contract: the part lent on is as long as the catalogue.
+-- `gate_structure::report_shared_parts` meets its contract: the part lent on is as long as the catalogue.
 use mathlib.Core.Path.{sym}
 use lib.Seq.{length-take-le}
 use borrow.Author.Needs.{needs}

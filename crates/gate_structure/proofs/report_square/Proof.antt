@@ -1,4 +1,4 @@
--- `structure_check::report_square` meets its contract. The loop's invariant: r is at most m.
+-- `gate_structure::report_square` meets its contract. The loop's invariant: r is at most m.
 use Prim.Native.Nat.{_-_, _≤_}
 use borrow.Author.Needs.{needs}
 use Rattle.gate_structure.proofs.report_square.Statement.{statement}

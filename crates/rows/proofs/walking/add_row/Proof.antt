@@ -1,4 +1,4 @@
--- `drawing::add_row` meets its contract: the row is joined as it lies in the block.
+-- `walking::add_row` meets its contract: the row is joined as it lies in the block.
 use Prim.Native.Nat.{_+_, _-_, _*_}
 use native.Mathlib.Omega.{arith}
 use borrow.Rule.Slice.PartMut.{midOf}

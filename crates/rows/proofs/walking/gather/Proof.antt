@@ -1,4 +1,4 @@
--- `drawing::gather` meets its contract: at each turn the rows of the marked numbers passed are added.
+-- `walking::gather` meets its contract: at each turn the rows of the marked numbers passed are added.
 use Prim.Native.Nat.{ℕ, _+_, _-_, _*_, _≤_, _<_}
 use native.Mathlib.Nat.{mul-le-mul-left}
 use native.Mathlib.Omega.{arith}
