@@ -9,6 +9,7 @@ use libc::STDOUT_FILENO;
 use reader::copy_numbers;
 use reader::number_after;
 use reader::put_number;
+use structure::Square;
 
 // Writes the total and the counts of a catalogue with no compositions and no axioms.
 fn put_counts(out: &mut [u8], n: usize, m: usize, h: usize)
@@ -147,7 +148,7 @@ fn report_next(n: usize) {
 }
 
 // Writes the roles that role r reaches.
-fn report_row(square: &[[bool; 16]; 16], m: usize, r: usize)
+fn report_row(square: &Square, m: usize, r: usize)
     requires { ⌜ (m ≤ 16) × (r < m) ⌝ }
 {
     io::print_decimal(STDOUT_FILENO, r as u64);
@@ -163,7 +164,7 @@ fn report_row(square: &[[bool; 16]; 16], m: usize, r: usize)
 }
 
 // Writes each role of a square below m with the roles that it reaches.
-fn report_square(square: &[[bool; 16]; 16], m: usize)
+fn report_square(square: &Square, m: usize)
     requires { ⌜ m ≤ 16 ⌝ }
 {
     let mut r = 0;
