@@ -7,6 +7,7 @@ ghost use Rattle.catalogue.specs.Verdicts.{outcomeOf};
 ghost use Rattle.rules.specs.Occurrence.{occurs};
 ghost use Rattle.layout.specs.Parts.{Sized, Clear, width, inForce};
 ghost use Rattle.lookups.specs.Checks.{every, openChecks, contentChecks, readChecks, listChecks};
+use catalogue::Concept;
 use catalogue::Verdict;
 use layout::Shape;
 
@@ -26,7 +27,7 @@ fn both_occur(b: &[u8], c: usize, d: usize, store: &[u8]) -> bool
 {
     let s = Shape::of(b);
     let w = s.width;
-    let mut marks = [0u8; 64];
+    let mut marks = [0u8; Concept::MAX / 8];
     both_marked(b, store, &mut marks[..w], c, d)
 }
 

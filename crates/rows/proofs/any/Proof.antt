@@ -1,6 +1,7 @@
 -- `rows::any` meets its contract: where none is found every byte passed is 0, and where one is found a bit is set.
 use mathlib.Core.Path.{_≡_, refl, sym}
 use mathlib.Core.Bool.{Bool, true, false, _||_, not, true≢false}
+use Rattle.booleans.proofs.Booleans.{neither}
 use Rattle.rows.specs.Bits.{anyBit}
 use Rattle.rows.proofs.Lowest.{any-nonzero, any-zero}
 use borrow.Author.Needs.{needs}
@@ -12,10 +13,6 @@ use lib.ListN.{length, getD}
 use lib.Dec.{eqb}
 use Rattle.rows.proofs.any.Statement.{statement}
 use Rattle.rows.proofs.any.Tie as tie
-
-neither : (a b : Bool) → (a || b) ≡ false → (a ≡ false) × (b ≡ false)
-neither true b e = absurd (true≢false e)
-neither false b e = (refl, e)
 
 one-of : {P : Type 0} (a b : Bool) → (a || not b) ≡ true → (a ≡ true → P) → (b ≡ false → P) → P
 one-of true b e p q = p refl
