@@ -79,7 +79,7 @@ module _ (b : List ℕ) (p : Passed b) where
 
   restriction : (i : ℕ) → i < concepts b → kind b i ≡ 3 → (first b i < roles b) × (second b i < i)
   unfolding fieldsRight
-  restriction i l k = below _ _ _ _ (sym (fields-existential b i (kind b i) (omega arith)) ∙ p .fields-right i l)
+  restriction i l k = below _ _ _ _ (sym (fields-existential b i (kind b i) k) ∙ p .fields-right i l)
 
   inclusion-roles : (k : ℕ) → k < inclusions b → (within b k < roles b) × (around b k < roles b)
   unfolding inclusionRight
@@ -151,7 +151,7 @@ module _ (b : List ℕ) (f : WellFormed b) (t : total b ≡ length b) where
       go : (kind b i ≤ 1) ⊎ ((kind b i ≡ 2) ⊎ (kind b i ≡ 3)) → fieldsAsKind b i (kind b i) ≡ true
       go (inl k) = fields-simple b i _ k ∙ are-zeros (f .atomic i l k)
       go (inr (inl k)) = fields-conjunction b i _ k ∙ are-below (f .conjuncts i l k)
-      go (inr (inr k)) = fields-existential b i _ (omega arith) ∙ are-below (f .existential i l k)
+      go (inr (inr k)) = fields-existential b i _ k ∙ are-below (f .existential i l k)
 
   composition-pass : (k : ℕ) → k < compositions b → compositionRight b k ≡ true
   unfolding compositionRight

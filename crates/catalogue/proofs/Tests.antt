@@ -2,7 +2,7 @@
 use Prim.Native.Nat.{ℕ, zero, suc, _+_, _*_, _≤_}
 use native.Mathlib.Omega.{arith}
 use mathlib.Core.Path.{_≡_, refl}
-use mathlib.Core.Bool.{true, _&&_, and-eq-true-iff}
+use mathlib.Core.Bool.{true, _&&_, and-eq-true-iff, false}
 use mathlib.Core.List.{List}
 use lib.Dec.{ltb, eqb}
 use lib.ListN.{length}
@@ -12,7 +12,7 @@ use Rattle.catalogue.specs.Records.{first, second, left, right}
 use Rattle.catalogue.specs.Checks.{totalRight, countsInLimits, offsetsRight, fieldsAsKind, above, risingRight}
 use Rattle.catalogue.specs.Sections.{Sections}
 
--- The fields of an atomic or top concept, of a conjunction, and of an existential.
+-- The fields of an atomic or top concept, of a conjunction, of an existential, and of any other kind.
 pub fields-simple : (b : List ℕ) (i k : ℕ) → k ≤ 1 → fieldsAsKind b i k ≡ (eqb (first b i) 0 && eqb (second b i) 0)
 unfolding fieldsAsKind
 fields-simple b i zero l = refl
@@ -23,12 +23,17 @@ pub fields-conjunction : (b : List ℕ) (i k : ℕ) → k ≡ 2 → fieldsAsKind
 unfolding fieldsAsKind
 fields-conjunction b i k e = rw e
 
-pub fields-existential : (b : List ℕ) (i k : ℕ) → 3 ≤ k → fieldsAsKind b i k ≡ (ltb (first b i) (roles b) && ltb (second b i) i)
+pub fields-existential : (b : List ℕ) (i k : ℕ) → k ≡ 3 → fieldsAsKind b i k ≡ (ltb (first b i) (roles b) && ltb (second b i) i)
 unfolding fieldsAsKind
-fields-existential b i zero l = absurd (omega arith)
-fields-existential b i (suc zero) l = absurd (omega arith)
-fields-existential b i (suc (suc zero)) l = absurd (omega arith)
-fields-existential b i (suc (suc (suc k))) l = refl
+fields-existential b i k e = rw e
+
+pub fields-other : (b : List ℕ) (i k : ℕ) → 4 ≤ k → fieldsAsKind b i k ≡ false
+unfolding fieldsAsKind
+fields-other b i zero l = absurd (omega arith)
+fields-other b i (suc zero) l = absurd (omega arith)
+fields-other b i (suc (suc zero)) l = absurd (omega arith)
+fields-other b i (suc (suc (suc zero))) l = absurd (omega arith)
+fields-other b i (suc (suc (suc (suc k)))) l = refl
 
 -- The first axiom, and one with another before it.
 pub rising-first : (b : List ℕ) (k : ℕ) → k ≡ 0 → risingRight b k ≡ true

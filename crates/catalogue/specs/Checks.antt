@@ -1,6 +1,6 @@
 -- Questions 1 to 9, each under its own name, and their order (document 01, Questions).
 use Prim.Native.Nat.{ℕ, zero, suc, _+_, _*_}
-use mathlib.Core.Bool.{Bool, true, _&&_, _||_}
+use mathlib.Core.Bool.{Bool, true, _&&_, _||_, false}
 use mathlib.Core.List.{List}
 use lib.ListN.{length}
 use lib.Dec.{leb, ltb, eqb}
@@ -34,12 +34,14 @@ offsetsRight b =
 unfoldable pub kindRight : List ℕ → ℕ → Bool
 kindRight b i = leb (kind b i) 3
 
--- 6: a concept's fields as laid down: atomic and top 0 and 0; parts smaller than their own record; the role of an existential below m.
+-- 6: a concept's fields as laid down: atomic and top 0 and 0; parts smaller than their own record; the role of an existential below m. No other kind
+-- has fields laid down; 5 comes first.
 unfoldable pub fieldsAsKind : List ℕ → ℕ → ℕ → Bool
 fieldsAsKind b i zero = eqb (first b i) 0 && eqb (second b i) 0
 fieldsAsKind b i (suc zero) = eqb (first b i) 0 && eqb (second b i) 0
 fieldsAsKind b i (suc (suc zero)) = ltb (first b i) i && ltb (second b i) i
-fieldsAsKind b i (suc (suc (suc k))) = ltb (first b i) (roles b) && ltb (second b i) i
+fieldsAsKind b i (suc (suc (suc zero))) = ltb (first b i) (roles b) && ltb (second b i) i
+fieldsAsKind b i (suc (suc (suc (suc k)))) = false
 
 unfoldable pub fieldsRight : List ℕ → ℕ → Bool
 fieldsRight b i = fieldsAsKind b i (kind b i)

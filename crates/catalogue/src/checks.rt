@@ -95,7 +95,8 @@ fn fields_right(b: &[u8], i: usize) -> bool
     match kind {
         Concept::ATOMIC | Concept::TOP => (c.first == 0) & (c.second == 0),
         Concept::CONJUNCTION => (c.first < i) & (c.second < i),
-        _ => (c.first < m) & (c.second < i),
+        Concept::EXISTENTIAL => (c.first < m) & (c.second < i),
+        _ => false,
     }
 }
 

@@ -1,8 +1,8 @@
 // Runs write, row_and_answer and the exported calls on the cases of its input, and writes what each answers and leaves in the buffers.
 // A case: the call (0 write, 1 row_and_answer; exported: 2 classify, 3 lookup, 4 list, 5 row, 6 write), two concept numbers, the entries of the answer that are
 // lent, the bytes lent of the store to be classified into and of the other buffer (work space, list or output; all of a buffer, where it is shorter), the
-// lengths of the catalogue and of the store to be read, two bytes each, low byte first; then that catalogue and that store. The input has W1, W8, W9 and
-// W10 of document 01, short buffers and answers, and refusals of each kind.
+// lengths of the catalogue and of the store to be read, two bytes each, low byte first; then that catalogue and that store. The input has W1, W8, W9
+// and W10's catalogue of document 01, short buffers and answers, and refusals of each kind.
 ghost use Prim.Native.Nat.{_+_, _≤_, _<_};
 ghost use lib.ListN.{length};
 use cases::fill;

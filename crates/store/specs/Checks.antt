@@ -22,7 +22,7 @@ workFits b long = leb (workUsed b) long
 unfoldable pub listFits : List ℕ → ℕ → Bool
 listFits b long = leb (2 * concepts b) long
 
--- 14: at most 4,096 axioms? (13 is `spareClear` of specs/Parts.)
+-- 14: at most 4,096 axioms? (13 is `spareClear` of layout's Parts.)
 unfoldable pub axiomsInLimit : List ℕ → Axioms → Bool
 axiomsInLimit b F = leb (axiomCount b F) 4096
 

@@ -2,6 +2,7 @@
 use catalogue::Axiom;
 use catalogue::Verdict;
 use catalogue::header::axioms_at;
+use layout::Shape;
 use reader::copy_numbers;
 use reader::put_number;
 use rows::next_below;
@@ -39,7 +40,7 @@ fn put_row(row: &[u8], n: usize, left: usize, out: &mut [u8], start: usize) -> u
     let mut right = next_below(row, n, 0);
     while right < n {
         put_axiom(out, at, left, right);
-        at += 4;
+        at += Axiom::SIZE;
         right = next_below(row, n, right + 1);
     }
     at
@@ -66,10 +67,11 @@ fn put_catalogue(b: &[u8], store: &[u8], count: usize, out: &mut [u8])
     ensures { λ _. ⌜ now (out .exit) ≡ written (now (b .entry)) (inForce (now (b .entry)) (now (store .entry))) ⌝ }
 {
     let start = axioms_at(b);
-    let n = catalogue::concepts(b);
-    let w = (n + 7) / 8;
+    let s = Shape::of(b);
+    let n = s.concepts;
+    let w = s.width;
     copy_numbers(b, 0, out, 0, start / 2);
-    put_number(out, 0, start + 4 * count);
+    put_number(out, 0, start + Axiom::SIZE * count);
     put_number(out, 10, count);
     put_table(store, n, w, out, start);
 }
@@ -89,7 +91,7 @@ fn write_checked(b: &[u8], store: &[u8], output: &mut [u8]) -> Wrote
     if Axiom::MAX < count {
         return Wrote::Refused(14, 0);
     }
-    let end = axioms_at(b) + 4 * count;
+    let end = axioms_at(b) + Axiom::SIZE * count;
     if output.len() < end {
         return Wrote::Refused(20, 0);
     }

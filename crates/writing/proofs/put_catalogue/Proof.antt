@@ -3,6 +3,7 @@ use mathlib.Core.Path.{_≡_}
 use mathlib.Core.List.{_++_}
 use lib.ListN.{length, take, drop}
 use Rattle.catalogue.specs.Header.{axiomsAt}
+use Rattle.layout.specs.Layout.{shapeOf}
 use Rattle.store.specs.Written.{setWord}
 use Rattle.writing.proofs.Whole.{counted, front-is, table-fits, whole}
 use borrow.Author.Needs.{needs}
@@ -12,11 +13,8 @@ use Rattle.writing.proofs.put_catalogue.Tie as tie
 axioms-at-requires : tie.Need-axioms-at-requires
 axioms-at-requires c κs = search needs
 
-concepts-requires : tie.Need-concepts-requires
-concepts-requires c κs = search needs
-
-add-w : tie.Need-add-w
-add-w c = search needs
+of-requires : tie.Need-of-requires
+of-requires c κs = search needs
 
 copy-numbers-requires : tie.Need-copy-numbers-requires
 copy-numbers-requires c κs = search needs
@@ -34,19 +32,20 @@ put-number-requires-2 : tie.Need-put-number-requires-2
 put-number-requires-2 c κs = search needs
 
 put-table-requires : tie.Need-put-table-requires
+unfolding shapeOf
 put-table-requires c κs =
     let start = c .before .before .before .before .before .before .before .before .before .before .before .before .before .before .before .before .before .before in
     let a = start .args in
     let ready = c .before .before .before .put-number2 .last .0 in
     let long : length ready ≡ length (a .out .now) = search needs in
-    rw (c .before .before .before .before .before .before .before .before .before .before .before .before .before .concepts .ensures, c .before .before .before .before .before .before .before .before .before .before .before .before .before .before .axioms-at .ensures)
+    rw (c .before .before .before .before .before .before .before .before .before .before .before .before .before .of .ensures, c .before .before .before .before .before .before .before .before .before .before .before .before .before .before .axioms-at .ensures)
     (table-fits (a .b .now) (a .store .now) (a .count) (a .out .now) (start .pre) ready long)
 
 same-length : tie.Need-same-length
 same-length c = search needs
 
 returns : tie.Need-returns
-unfolding setWord
+unfolding setWord shapeOf
 returns c =
     let a = c .before .before .before .before .before .before .before .before .before .before .before .before .before .before .before .before .before .before .before .before .before .args in
     let ready : c .before .before .before .before .before .before .put-number2 .last .0 ≡ counted (a .b .now) (a .count) (take (axiomsAt (a .b .now)) (a .b .now)) ++ drop (axiomsAt (a .b .now)) (a .out .now) =
@@ -54,15 +53,14 @@ returns c =
     (front-is (a .b .now) (a .store .now) (a .count) (a .out .now) (c .before .before .before .before .before .before .before .before .before .before .before .before .before .before .before .before .before .before .before .before .before .pre))
     in
     whole (a .b .now) (a .store .now) (a .count) (a .out .now) (c .before .before .before .before .before .before .before .before .before .before .before .before .before .before .before .before .before .before .before .before .before .pre) (c .before .before .before .before .before .before .put-number2 .last .0) ready (c .before .before .put-table .last .1 .1 .1 .0)
-    (rw (c .before .before .before .before .before .before .before .before .before .before .before .before .before .before .before .before .concepts .ensures, c .before .before .before .before .before .before .before .before .before .before .before .before .before .before .before .before .before .axioms-at .ensures) at (c .before .before .put-table .ensures))
+    (rw (c .before .before .before .before .before .before .before .before .before .before .before .before .before .before .before .before .of .ensures, c .before .before .before .before .before .before .before .before .before .before .before .before .before .before .before .before .before .axioms-at .ensures) at (c .before .before .put-table .ensures))
 
 pub put-catalogue-spec : {M : Type 1} → statement M
 put-catalogue-spec =
     tie.close
     (tie.spec
     axioms-at-requires
-    concepts-requires
-    add-w
+    of-requires
     copy-numbers-requires
     mul-put-number
     add-put-number
