@@ -24,7 +24,7 @@ use Rattle.classification.specs.Classified.{UsedParts}
 use Rattle.closing.specs.Closing.{Closes}
 use Rattle.rules.proofs.Bounds.{closure-bounded}
 use Rattle.store.proofs.Stored.{marks-fresh}
-use Rattle.classification.proofs.Counted.{pairs-size, links-size}
+use Rattle.layout.proofs.Counted.{pairs-size, links-size}
 
 -- How the store came about: `rows` put at the front of it, and then `set` in its place behind them.
 pub record FilledFrom (b rows set work store copied filled : List ℕ) (s : Shape) : Type 0 where
