@@ -17,14 +17,14 @@ use Rattle.rules.proofs.Axioms.{catalogue-in-range}
 use Rattle.rules.specs.Counts.{Size, Pairs, Links}
 use Rattle.layout.specs.declared.Shape.{Shape}
 use Rattle.layout.specs.Layout.{shapeOf, table, marks, tableLength, blockLength, Shaped}
-use Rattle.layout.specs.Parts.{width, used, workUsed, axiomRows, setRows, inForce, held}
+use Rattle.layout.specs.Parts.{width, used, workUsed}
 use Rattle.store.specs.Fresh.{Fresh}
 use Rattle.layout.proofs.StoreSizes.{used-split, work-is-block, table-long, block-long, used-limit, table-limit}
 use Rattle.classification.specs.Classified.{UsedParts}
 use Rattle.closing.specs.Closing.{Closes}
 use Rattle.rules.proofs.Bounds.{closure-bounded}
-use Rattle.store.proofs.Stored.{marks-fresh}
-use Rattle.classification.proofs.Counted.{pairs-size, links-size}
+use Rattle.store.proofs.Stored.{parts-marked}
+use Rattle.layout.proofs.Counted.{pairs-size, links-size}
 
 -- How the store came about: `rows` put at the front of it, and then `set` in its place behind them.
 pub record FilledFrom (b rows set work store copied filled : List ℕ) (s : Shape) : Type 0 where
@@ -102,31 +102,19 @@ module _ (b rows set work store copied filled : List ℕ) (h : FilledFrom b rows
       ∙ ap (λ (l : List ℕ). set ++ l) post
       ∙ append-nil set
 
-  in-force : (c d : ℕ) → inForce b filled c d ≡ F c d
-  unfolding inForce axiomRows F
-  in-force c d = ap (λ (l : List ℕ). table (shapeOf b) l c d) front ∙ h .axioms c d
-
-  same : table (shapeOf b) rows ≡ F
-  unfolding F
-  same = fun-ext (λ c. fun-ext (λ d. h .axioms c d))
+  parts : filled ≡ rows ++ set
+  parts = sym (take-append-drop t filled) ∙ ap₂ _++_ front back
 
   set-held : Decides (marks (shapeOf b) set) (Closure b F)
-  set-held = subst (λ (G : Axioms). Decides (marks (shapeOf b) set) (Closure b G)) same (h .closes .held)
-
-  block : setRows b filled ≡ set
-  unfolding setRows
-  block = ap (take (blockLength (shapeOf b))) back ∙ take-all (blockLength (shapeOf b)) set (omega (arith, h .set-long))
-
-  in-set : Decides (held b filled) (Closure b F)
-  unfolding held
-  in-set = subst (λ (l : List ℕ). Decides (marks (shapeOf b) l) (Closure b F)) (sym block) set-held
+  unfolding F
+  set-held = subst (λ (G : Axioms). Decides (marks (shapeOf b) set) (Closure b G)) (fun-ext (λ c. fun-ext (λ d. h .axioms c d))) (h .closes .held)
 
   filled-long : length filled ≡ length store
   filled-long =
       let z = sizes in
-      ap length (sym (take-append-drop t filled))
-      ∙ length-append (take t filled) (drop t filled)
-      ∙ ap₂ _+_ (ap length front ∙ h .rows-long) (ap length back ∙ h .set-long)
+      ap length parts
+      ∙ length-append rows set
+      ∙ ap₂ _+_ (h .rows-long) (h .set-long)
       ∙ sym (z .whole)
 
   at-shape : FilledTo b work store filled (shapeOf b)
@@ -137,7 +125,9 @@ module _ (b rows set work store copied filled : List ℕ) (h : FilledFrom b rows
       let bounded = closure-bounded b F wf range in
       let z = sizes in
       record {
-        fresh = marks-fresh b F filled wf range in-force in-set (omega (arith, filled-long, h .long)) (λ i l. h .bytes i);
+        fresh =
+            subst (Fresh b F) (sym parts)
+            (parts-marked b rows set (h .rows-long) (h .set-long) F (Closure b F) range bounded (h .axioms) set-held (subst Bytes parts (h .bytes)));
         pairs =
             subst (λ (l : List ℕ). Size b (Pairs (Closure b F)) (countBits l))
             (sym (ap₂ take (let y : (t + t) - t ≡ t = omega arith in y) back))

@@ -2,8 +2,6 @@ pub mod Checks
 pub mod Unique
 pub mod DemandTwo
 pub mod Zeros
-pub mod Sums
-pub mod Counted
 pub mod AxiomTable
 pub mod Filled
 pub mod Putting

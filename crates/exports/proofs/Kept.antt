@@ -2,11 +2,11 @@
 use Prim.Native.Nat.{ℕ}
 use native.Mathlib.Decide.{decLt}
 use native.Mathlib.Omega.{arith}
-use mathlib.Core.Path.{_≡_, refl, sym}
+use mathlib.Core.Path.{_≡_, refl, sym, _∙_}
 use mathlib.Core.List.{List}
 use lib.ListN.{length}
 use Rattle.catalogue.specs.Outcome.{Outcome}
-use Rattle.store.specs.Work.{workAfter}
+use Rattle.store.proofs.Work.{work-stays}
 use Rattle.classification.specs.declared.Classified.{Classified}
 use Rattle.classification.specs.declared.Classified.the-variants.{Done}
 use Rattle.classification.specs.Classified.{Classifies}
@@ -51,11 +51,11 @@ exported-kept {replyOf = replyOf} {answer = answer} keeps p n =
 
 classifies-kept : (b store work s w : List ℕ) (call : Classified) (number at : ℕ) → Classifies b store work call s w → classifyReply call ≡ Refused number at
     → _≡_ {A = List ℕ × List ℕ} (s, w) (store, work)
-unfolding workAfter
 classifies-kept b store work s w (Done pairs links) number at p e = absurd (never-accepted e)
 classifies-kept b store work s w (Classified.Refused n a) number at p e =
     let x = p .refuses n a (sym (answer-outcome b store work (Classified.Refused n a) s w p)) in
-    λ i. (x .store-kept i, x .work-kept i)
+    let stays : w ≡ work = x .work-kept ∙ work-stays _ n work in
+    λ i. (x .store-kept i, stays i)
 
 pub classify-kept : (b store work answer : List ℕ) (r : ℕ) (s w a : List ℕ) → ClassifyExported b store work answer r s w a → (r ≡ 0 → ⊥)
     → (s ≡ store) × (w ≡ work) × (a ≡ answer)

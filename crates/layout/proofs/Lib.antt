@@ -5,3 +5,4 @@ pub mod StoreSizes
 pub mod StoreRows
 pub mod Offsets
 pub mod ZeroBlocks
+pub mod Counted

@@ -22,7 +22,7 @@ use Rattle.layout.specs.Layout.{shapeOf, rowOf, table, marks, tableLengt
 use Rattle.rows.proofs.Places.{place-within, some-factor}
 use Rattle.layout.proofs.Places.{rowOf-below}
 use Rattle.rows.proofs.RowParts.{bit-mid}
-use Rattle.layout.proofs.BlockRows.{table-elim}
+use Rattle.layout.proofs.BlockRows.{marks-bit, table-elim}
 use Rattle.layout.specs.Parts.{width, used, axiomRowAt, pairRowAt, linkRowAt, rowAt, axiomRows, setRows, inForce, held, rowCount, setFrom, spareClear}
 use Rattle.layout.proofs.StoreSizes.{table-long, block-long, used-split, rows-split, width-fits}
 use Rattle.layout.proofs.Sizes.{shape-table}
@@ -74,13 +74,10 @@ unfolding place
 block-place n w r d = omega (arith, add-mul n r w)
 
 pub held-bit : (b store : List ℕ) (c g d : ℕ) → c < concepts b → g ≤ roles b → d < 8 * width b → held b store (fact c g d) ≡ bit store (place (width b) (concepts b + rowOf (shapeOf b) c g) d)
-unfolding held marks shapeOf width
+unfolding held shapeOf width
 held-bit b store c g d lc lg ld =
     let r = rowOf (shapeOf b) c g in
-    let here = bit (setRows b store) (place (width b) r d) in
-    ap (λ t. t && (leb g (roles b) && (ltb d (8 * width b) && here))) (lt-ltb c (concepts b) lc)
-    ∙ ap (λ t. t && (ltb d (8 * width b) && here)) (le-leb g (roles b) lg)
-    ∙ ap (λ t. t && here) (lt-ltb d (8 * width b) ld)
+    marks-bit (shapeOf b) (setRows b store) c g d lc lg ld
     ∙ bit-set-rows b store (place (width b) r d) (place-within (width b) r (concepts b + concepts b * roles b) d (rowOf-below (shapeOf b) c g lc lg) ld)
     ∙ ap (bit store) (block-place (concepts b) (width b) r d)
 

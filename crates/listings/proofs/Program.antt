@@ -3,13 +3,12 @@ use Prim.Native.Nat.{ℕ, _+_, _*_, _≤_, _<_}
 use native.Mathlib.Decide.{decLt}
 use native.Mathlib.Omega.{arith}
 use mathlib.Core.Path.{_≡_, refl, sym, ap, ap₂, subst, fun-ext, _∙_}
-use mathlib.Core.Logic.{Iff·rfl}
 use mathlib.Core.Bool.{Bool, true, false, not, _&&_}
 use mathlib.Core.List.{List}
 use lib.Dec.{lit<}
 use lib.ListN.{length, take}
 use lib.Seq.{length-take-le, getD-take, take-all}
-use borrow.Author.Tests.{le-leb, ne-eqb, not-true}
+use borrow.Author.Tests.{le-leb, ne-eqb}
 use Rattle.rows.specs.Bits.{Bytes}
 use Rattle.catalogue.specs.Outcome.{Outcome, accepted, refused}
 use Rattle.catalogue.specs.Words.{word}
@@ -18,14 +17,13 @@ use Rattle.catalogue.specs.Checks.{headerFits, totalRight, catalogueChecks}
 use Rattle.catalogue.proofs.Outcomes.{ask-yes, ask-no}
 use Rattle.derivation.specs.Decided.{Decides}
 use Rattle.derivation.proofs.Counts.{decides-agree}
-use Rattle.booleans.proofs.Booleans.{both}
 use Rattle.rules.specs.Axioms.{catalogueAxioms}
 use Rattle.rules.specs.Rules.{Expression, Closure}
-use Rattle.rules.specs.Counts.{countOver, Size, isPair, Pairs, Links}
+use Rattle.rules.specs.Counts.{Size, isPair, Pairs, Links}
 use Rattle.rules.specs.Presentation.{inClosure}
 use Rattle.rules.proofs.Axioms.{catalogue-in-range}
 use Rattle.rules.proofs.Changes.{closure-decided}
-use Rattle.rules.proofs.Counts.{size-unique}
+use Rattle.rules.proofs.Counts.{pairs-decide, links-decide, counted-by}
 use Rattle.layout.specs.Parts.{Sized, held}
 use Rattle.classification.specs.declared.Classified.{Classified}
 use Rattle.classification.specs.declared.Classified.the-variants.{Done, Refused}
@@ -37,17 +35,6 @@ use Rattle.text.specs.Lines.{listing}
 use Rattle.listings.specs.Program.{listingOf, unlessRefused, programText}
 
 -- ---- By the least set.
-
--- Two tests together decide the members of both sets.
-both-decide : (s t : Expression → Bool) (P Q : Expression → Type 0) → Decides s P → Decides t Q → Decides (λ e. s e && t e) (λ e. P e × Q e)
-both-decide s t P Q p q e = (
-  λ h. let r = both (s e) (t e) .0 h in (p e .0 (r .0), q e .0 (r .1)),
-  λ h. both (s e) (t e) .1 (p e .1 (h .0), q e .1 (h .1)),
-)
-
--- A set's size is the count of any test that decides it.
-counted-by : (b : List ℕ) (S : Expression → Type 0) (k : ℕ) (test : Expression → Bool) → Size b S k → Decides test S → countOver b test ≡ k
-counted-by b S k test p d = size-unique b S (countOver b test) k (record { test = test; decides = d; within = p .within; counted = refl }) p
 
 -- Refused: the line of the refusal.
 pub program-text-refused : (input : List ℕ) (number at : ℕ) → classifyChecks input 65536 65536 ≡ refused number at → programText input ≡ refusal number
@@ -67,8 +54,8 @@ program-text-listed input test pairs links e exact p l =
     ap (λ (o : Outcome). unlessRefused o (listingOf input (inClosure input F))) e
     ∙ ap (listingOf input) same
     ∙ ap₂ (listing input test)
-    (counted-by input (Pairs S) pairs (λ x. test x && isPair x) p (both-decide test isPair S (λ x. isPair x ≡ true) exact (λ x. Iff·rfl)))
-    (counted-by input (Links S) links (λ x. test x && not (isPair x)) l (both-decide test (λ x. not (isPair x)) S (λ x. isPair x ≡ false) exact (λ x. (not-true (isPair x), λ h. ap not h))))
+    (counted-by input (Pairs S) pairs (λ x. test x && isPair x) p (pairs-decide test S exact))
+    (counted-by input (Links S) links (λ x. test x && not (isPair x)) l (links-decide test S exact))
 
 -- ---- By what classify answers, and the store that it leaves.
 

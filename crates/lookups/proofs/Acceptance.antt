@@ -1,7 +1,7 @@
 -- The questions of the calls that read: what acceptance says, what each no answers, and that naming a concept twice asks nothing more.
 use Prim.Native.Nat.{ℕ, _*_, _≤_, _<_}
 use mathlib.Core.Path.{_≡_, refl, sym, ap, ap₂, _∙_}
-use mathlib.Core.Bool.{Bool, true, _&&_, and-true, and-self-left}
+use mathlib.Core.Bool.{Bool, true, and-self-left}
 use mathlib.Core.List.{List, [], _∷_}
 use lib.Dec.{ltb}
 use lib.ListN.{length}
@@ -13,25 +13,13 @@ use Rattle.catalogue.specs.WellFormed.{WellFormed}
 use Rattle.catalogue.proofs.Outcomes.{ask-accepted, followed-ask, followed-both}
 use Rattle.catalogue.proofs.Passed.{checks-followed}
 use Rattle.catalogue.proofs.Accepted.{accepted-well-formed}
-use Rattle.booleans.proofs.Booleans.{both}
 use Rattle.rules.specs.Occurrence.{occurs}
 use Rattle.layout.specs.Parts.{Sized, used, inForce, spareClear}
-use Rattle.store.specs.Checks.{storeFits, listFits, axiomsInLimit, askStore, askList, askSpare, askLimit}
-use Rattle.lookups.specs.Checks.{every, askNumbers, askOccurs, openChecks, contentChecks, readChecks, listChecks, Named}
+use Rattle.store.specs.Checks.{every, storeFits, listFits, axiomsInLimit, askStore, askList, askSpare, askLimit, askNumbers}
+use Rattle.store.proofs.Checks.{every-one, two-numbers}
+use Rattle.lookups.specs.Checks.{askOccurs, openChecks, contentChecks, readChecks, listChecks, Named}
 
 -- ---- concepts named
-
-pub every-one : (test : ℕ → Bool) (c : ℕ) → every test (c ∷ []) ≡ test c
-unfolding every
-every-one test c = and-true (test c)
-
-pub every-two : (test : ℕ → Bool) (c d : ℕ) → every test (c ∷ d ∷ []) ≡ (test c && test d)
-unfolding every
-every-two test c d = ap (λ t. test c && t) (every-one test d)
-
--- Two numbers below the count of concepts, as the code tests them.
-pub numbers-below : (b : List ℕ) (n c d : ℕ) {t : Bool} → n ≡ concepts b → (ltb c n && ltb d n) ≡ t → every (λ x. ltb x (concepts b)) (c ∷ d ∷ []) ≡ t
-numbers-below b n c d e h = every-two (λ x. ltb x (concepts b)) c d ∙ ap (λ k. ltb c k && ltb d k) (sym e) ∙ h
 
 pub every-twice : (test : ℕ → Bool) (c : ℕ) → every test (c ∷ c ∷ []) ≡ every test (c ∷ [])
 unfolding every
@@ -126,9 +114,7 @@ read-twice b c store = ap (openChecks b (length store)) (content-twice b c store
 -- ---- the concepts that an accepted call names
 
 pub named-two : (b : List ℕ) (c d : ℕ) (store : List ℕ) → Named b (c ∷ d ∷ []) store → (c < concepts b) × (d < concepts b)
-named-two b c d store m =
-    let p = both (ltb c (concepts b)) (ltb d (concepts b)) .0 (sym (every-two (λ x. ltb x (concepts b)) c d) ∙ m .below) in
-    (ltb-true c (concepts b) (p .0), ltb-true d (concepts b) (p .1))
+named-two b c d store m = two-numbers b c d (m .below)
 
 pub named-one : (b : List ℕ) (c : ℕ) (store : List ℕ) → Named b (c ∷ []) store → c < concepts b
 named-one b c store m = ltb-true c (concepts b) (sym (every-one (λ x. ltb x (concepts b)) c) ∙ m .below)

@@ -18,13 +18,13 @@ use Rattle.store.specs.Fresh.{Fresh}
 use Rattle.store.specs.Written.{axiomCount}
 use Rattle.store.proofs.Rising.{rising-lists}
 use Rattle.store.proofs.Records.{word-later}
-use Rattle.store.proofs.Checks.{marked-axioms}
+use Rattle.store.proofs.Checks.{marked-axioms, every-one}
 use Rattle.lookups.specs.Checks.{listChecks}
 use Rattle.lookups.specs.Listings.{atomicUnder, kindsUnder, withFront, listed, listAfter, Lists}
 use Rattle.lookups.specs.Meaning.{ListingFinds}
 use Rattle.lookups.specs.declared.kinds.Listed.{Listed}
 use Rattle.lookups.specs.declared.kinds.Listed.the-variants.{Count, Refused}
-use Rattle.lookups.proofs.Acceptance.{every-one, list-named}
+use Rattle.lookups.proofs.Acceptance.{list-named}
 use Rattle.lookups.proofs.DemandListing.{listing-means, listed-exact}
 use Rattle.lookups.proofs.Unique.{refused-keeps}
 

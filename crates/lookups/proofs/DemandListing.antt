@@ -25,14 +25,14 @@ use Rattle.rules.proofs.Occurrence.{occurs-exact, occurs-below}
 use Rattle.layout.specs.Parts.{held}
 use Rattle.store.specs.Written.{axiomCount}
 use Rattle.store.specs.Fresh.{Fresh}
-use Rattle.store.specs.Checks.{listFits, askList}
+use Rattle.store.specs.Checks.{every, listFits, askList, askNumbers}
 use Rattle.store.proofs.Rising.{rising-lists}
-use Rattle.lookups.specs.Checks.{every, askNumbers, askOccurs, contentChecks, listChecks}
+use Rattle.lookups.specs.Checks.{askOccurs, contentChecks, listChecks}
 use Rattle.lookups.specs.Listings.{atomicUnder, kindsUnder, listed, Lists}
 use Rattle.lookups.specs.Meaning.{Among, KindUnder, ListingMeans}
 use Rattle.lookups.specs.declared.kinds.Listed.{Listed}
 use Rattle.lookups.specs.declared.kinds.Listed.the-variants.{Count, Refused}
-use Rattle.lookups.proofs.Acceptance.{every-one}
+use Rattle.store.proofs.Checks.{every-one}
 use Rattle.lookups.proofs.Partitions.{partition-marked}
 use Rattle.lookups.proofs.DemandLookup.{open-passes, content-asks, meant}
 

@@ -26,14 +26,13 @@ use Rattle.rules.proofs.NoAxioms.{none-occurs}
 use Rattle.layout.specs.Parts.{held}
 use Rattle.store.specs.Written.{axiomCount}
 use Rattle.store.specs.Fresh.{Fresh}
-use Rattle.store.specs.Checks.{askStore, askSpare, askLimit}
-use Rattle.store.proofs.Checks.{marked-axioms, marked-fits, marked-limit}
-use Rattle.lookups.specs.Checks.{every, askNumbers, askOccurs, openChecks, contentChecks, readChecks}
+use Rattle.store.specs.Checks.{every, askStore, askSpare, askLimit, askNumbers}
+use Rattle.store.proofs.Checks.{marked-axioms, marked-fits, marked-limit, every-two}
+use Rattle.lookups.specs.Checks.{askOccurs, openChecks, contentChecks, readChecks}
 use Rattle.lookups.specs.Answers.{looked, lookedUp}
 use Rattle.lookups.specs.Meaning.{LookupMeans}
 use Rattle.lookups.specs.declared.pairs.Looked.{Looked}
 use Rattle.lookups.specs.declared.pairs.Looked.the-variants.{Yes, No, Refused}
-use Rattle.lookups.proofs.Acceptance.{every-two}
 use Rattle.lookups.proofs.Answered.{looked-up, looked-refused}
 
 -- ---- two answers are not one

@@ -28,12 +28,13 @@ use Rattle.store.specs.Fresh.{Fresh}
 use Rattle.store.specs.Written.{axiomCount}
 use Rattle.layout.proofs.StoreSizes.{width-fits}
 use Rattle.layout.proofs.StoreRows.{pair-row-bit}
-use Rattle.lookups.specs.Checks.{every, askNumbers, askOccurs, readChecks}
+use Rattle.store.specs.Checks.{every, askNumbers}
+use Rattle.lookups.specs.Checks.{askOccurs, readChecks}
 use Rattle.lookups.specs.Rows.{rowAnswer, HandsOut}
 use Rattle.lookups.specs.Meaning.{RowMeans}
 use Rattle.lookups.specs.declared.handing.Handed.{Handed}
 use Rattle.lookups.specs.declared.handing.Handed.the-variants.{Row, Refused}
-use Rattle.lookups.proofs.Acceptance.{every-one}
+use Rattle.store.proofs.Checks.{every-one}
 use Rattle.lookups.proofs.Answered.{row-accepted, row-refused}
 use Rattle.lookups.proofs.DemandLookup.{read-asks, meant}
 

@@ -5,8 +5,8 @@ use lib.Dec.{lit≤}
 use lib.ListN.{length}
 use Rattle.catalogue.specs.Outcome.{Outcome, accepted}
 use Rattle.catalogue.proofs.Refusals.{Small, small-accepted, small-ask, small-catalogue}
-use Rattle.store.specs.Checks.{askStore, askList, askSpare, askLimit}
-use Rattle.lookups.specs.Checks.{askNumbers, askOccurs, openChecks, contentChecks, readChecks, listChecks}
+use Rattle.store.specs.Checks.{askStore, askList, askSpare, askLimit, askNumbers}
+use Rattle.lookups.specs.Checks.{askOccurs, openChecks, contentChecks, readChecks, listChecks}
 
 small-content : (b names store : List ℕ) → Small (contentChecks b names store)
 unfolding contentChecks askSpare askLimit askNumbers askOccurs

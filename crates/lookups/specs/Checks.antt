@@ -10,13 +10,7 @@ use Rattle.catalogue.specs.Outcome.{Outcome, accepted, ask}
 use Rattle.catalogue.specs.Checks.{catalogueChecks}
 use Rattle.rules.specs.Occurrence.{Marking, occurs}
 use Rattle.layout.specs.Parts.{Clear, inForce, spareClear}
-use Rattle.store.specs.Checks.{askStore, askList, askSpare, askLimit, axiomsInLimit}
--- Every concept that a call names passes a test.
-unfoldable pub use Rattle.derivation.specs.Finite.{each as every}
-
--- 15: concept numbers below n?
-unfoldable pub askNumbers : List ℕ → List ℕ → Outcome → Outcome
-askNumbers b names rest = ask (every (λ c. ltb c (concepts b)) names) 15 0 rest
+use Rattle.store.specs.Checks.{every, numbersBelow, axiomsInLimit, askStore, askList, askSpare, askLimit, askNumbers}
 
 -- 19: all concepts named occur?
 unfoldable pub askOccurs : Marking → List ℕ → Outcome → Outcome
@@ -47,5 +41,5 @@ listChecks b names store long = openChecks b (length store) (askList b long (con
 pub record Named (b names store : List ℕ) : Type 0 where
   pub clear : Clear b store
   pub few : axiomsInLimit b (inForce b store) ≡ true
-  pub below : every (λ c. ltb c (concepts b)) names ≡ true
+  pub below : numbersBelow b names ≡ true
   pub occur : every (occurs b (inForce b store)) names ≡ true

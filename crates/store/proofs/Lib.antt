@@ -11,4 +11,6 @@ pub mod AxiomCounts
 pub mod WrittenBack
 pub mod AtomicConcepts
 pub mod Checks
+pub mod Changes
+pub mod Work
 pub mod Examples

@@ -26,7 +26,7 @@ use Rattle.rules.specs.Presentation.{size, number, expression, presentation}
 use Rattle.rules.proofs.Presentation.{presentation-numbered, numbered-exact}
 use Rattle.rules.proofs.Changes.{over-same, broken-same, after-same, permits-covered, closure-computed, change-closure}
 use Rattle.rules.proofs.Bounds.{closure-bounded}
-use Rattle.classification.proofs.Counted.{numbered-count}
+use Rattle.rules.proofs.Counts.{numbered-count}
 use Rattle.worked.specs.Entries.{Rows, Changed}
 use Rattle.worked.specs.Computed.{passing, union, closureOf, removedOf, overRowsOf, returnedOf, gainedOf, brokenIn, brokenOf, gainingIn, gainingOf}
 use Rattle.worked.proofs.Lists.{passing-exact}

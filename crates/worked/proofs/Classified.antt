@@ -6,13 +6,13 @@ use mathlib.Core.Logic.{_↔_}
 use mathlib.Core.Bool.{Bool, true, false, _&&_, not}
 use mathlib.Core.List.{List}
 use lib.Dec.{ltb}
-use borrow.Author.Tests.{not-true, ltb-true, ltb-false}
+use borrow.Author.Tests.{ltb-true, ltb-false}
 use Rattle.catalogue.specs.Header.{concepts}
 use Rattle.catalogue.specs.WellFormed.{WellFormed}
 use Rattle.derivation.specs.Decided.{Decides}
 use Rattle.derivation.specs.Tables.{has}
 use Rattle.derivation.specs.Finite.{marked}
-use Rattle.booleans.proofs.Booleans.{by-bool, not-both, both}
+use Rattle.booleans.proofs.Booleans.{by-bool, not-both}
 use Rattle.derivation.proofs.Tables.{has-empty, image-has, image-only}
 use Rattle.rules.specs.Axioms.{Axioms, InRange}
 use Rattle.rules.specs.Rules.{Expression, pair, EL, Closure, Bounded}
@@ -20,7 +20,7 @@ use Rattle.rules.specs.Counts.{Size, isPair, Pairs, Links}
 use Rattle.rules.specs.Presentation.{presentation}
 use Rattle.rules.proofs.Changes.{closure-computed}
 use Rattle.rules.proofs.Bounds.{closure-bounded}
-use Rattle.classification.proofs.Counted.{numbered-count}
+use Rattle.rules.proofs.Counts.{numbered-count, pairs-decide, links-decide}
 use Rattle.worked.specs.Entries.{Rows, Classified}
 use Rattle.worked.specs.Computed.{closureOf, countIn, pairsOf, linksOf, rowBy, rowsBy, rowsOf}
 use Rattle.worked.proofs.Lists.{value-in, value-past}
@@ -53,14 +53,11 @@ module _ (b : List ℕ) (F : Axioms) (wf : WellFormed b) (range : InRange b F) w
   member-exact = closure-computed b F F wf range (λ c d f. f)
 
   -- A part of the least set, by a test.
-  part-counted : (P : Expression → Type 0) (test : Expression → Bool) → Decides test P → Size b (λ e. Closure b F e × P e) (countIn b F test)
+  part-counted : (P : Expression → Type 0) (test : Expression → Bool) → Decides (λ e. member e && test e) (λ e. Closure b F e × P e) → Size b (λ e. Closure b F e × P e) (countIn b F test)
   unfolding countIn member
   part-counted P test exact = record {
     test = λ e. member e && test e;
-    decides = λ e. (
-      λ m. let r = both (member e) (test e) .0 m in (member-exact e .0 (r .0), exact e .0 (r .1)),
-      λ p. both (member e) (test e) .1 (member-exact e .1 (p .0), exact e .1 (p .1)),
-    );
+    decides = exact;
     within = λ e p. closure-bounded b F wf range e (p .0);
     counted = numbered-count b (λ e. member e && test e) F;
   }
@@ -69,7 +66,7 @@ module _ (b : List ℕ) (F : Axioms) (wf : WellFormed b) (range : InRange b F) w
   pub classified : (pairs links : ℕ) (rows : List ℕ) → pairsOf b F ≡ pairs → linksOf b F ≡ links → rowsOf b F ≡ rows → Classified b F pairs links rows
   unfolding pairsOf linksOf rowsOf member
   classified pairs links rows p l r = record {
-    pairs-right = subst (Size b (Pairs (Closure b F))) p (part-counted (λ e. isPair e ≡ true) isPair (λ e. (λ h. h, λ h. h)));
-    links-right = subst (Size b (Links (Closure b F))) l (part-counted (λ e. isPair e ≡ false) (λ e. not (isPair e)) (λ e. (not-true (isPair e), λ h. ap not h)));
+    pairs-right = subst (Size b (Pairs (Closure b F))) p (part-counted (λ e. isPair e ≡ true) isPair (pairs-decide member (Closure b F) member-exact));
+    links-right = subst (Size b (Links (Closure b F))) l (part-counted (λ e. isPair e ≡ false) (λ e. not (isPair e)) (links-decide member (Closure b F) member-exact));
     rows-right = subst (Rows (Closure b F)) r (rows-exact b (Closure b F) member member-exact (closure-bounded b F wf range));
   }

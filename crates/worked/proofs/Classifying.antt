@@ -16,7 +16,7 @@ use Rattle.rules.proofs.Counts.{size-unique}
 use Rattle.layout.specs.Parts.{used, workUsed}
 use Rattle.store.specs.Fresh.{Fresh}
 use Rattle.store.specs.Checks.{storeFits, workFits}
-use Rattle.store.specs.Work.{workAfter}
+use Rattle.store.proofs.Work.{work-stays}
 use Rattle.store.proofs.Fresh.{fresh-unique}
 use Rattle.classification.specs.Classified.{pairsOf, linksOf}
 use Rattle.classification.proofs.Checks.{refused-catalogue, all-accepted}
@@ -35,7 +35,6 @@ classify-gives b pairs links part catalogue long fresh p l store work answer sto
     )
 
 pub classify-refuses : (b : List ℕ) (number at : ℕ) → checked b ≡ refused number at → ClassifyRefuses b number at
-unfolding workAfter
 classify-refuses b number at e store work answer store' work' c =
     let r = c .refuses number at (refused-catalogue b (length store) (length work) e) in
-    (refused-answer answer (r .answers), r .store-kept, r .work-kept)
+    (refused-answer answer (r .answers), r .store-kept, r .work-kept ∙ work-stays (workUsed b) number work)

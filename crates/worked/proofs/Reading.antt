@@ -26,9 +26,9 @@ use Rattle.layout.specs.Layout.{shapeOf, rowOf, marks, blockLength, tableLength
 use Rattle.layout.specs.Parts.{width, used, pairRowAt, setRows, held, rowCount, setFrom, spareClear}
 use Rattle.store.specs.Written.{numbered, axiomCount, rising}
 use Rattle.store.specs.Fresh.{Fresh}
-use Rattle.store.specs.Checks.{storeFits, listFits, askStore, askList, askSpare}
+use Rattle.store.specs.Checks.{every, storeFits, listFits, askStore, askList, askSpare, askNumbers}
 use Rattle.store.proofs.Examples.{w1-axiom-count, w1-written}
-use Rattle.lookups.specs.Checks.{every, askNumbers, askOccurs, openChecks, contentChecks, readChecks, listChecks}
+use Rattle.lookups.specs.Checks.{askOccurs, openChecks, contentChecks, readChecks, listChecks}
 use Rattle.lookups.specs.Answers.{lookedUp}
 use Rattle.lookups.specs.Listings.{atomicUnder, kindsUnder, withFront, listed, listAfter}
 use Rattle.lookups.specs.Rows.{rowAnswer}

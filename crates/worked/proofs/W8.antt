@@ -1,5 +1,5 @@
 -- W8: without axioms classify finds nothing and leaves a store of zeros, and every lookup in one gives 19.
-use Prim.Native.Nat.{ℕ, suc, _+_, _*_, _<_}
+use Prim.Native.Nat.{ℕ, _+_, _*_, _<_}
 use native.Mathlib.Omega.{arith}
 use mathlib.Core.Path.{_≡_, refl, sym, ap, subst, fun-ext, _∙_}
 use mathlib.Core.Bool.{true, false, false≢true}
@@ -7,20 +7,20 @@ use mathlib.Core.List.{List}
 use lib.Dec.{lit<}
 use lib.ListN.{length, getD, take, replicate, length-take, length-replicate, getD-replicate}
 use lib.Seq.{take-all, getD-take}
-use Rattle.catalogue.specs.Header.{concepts, roles, axioms}
+use Rattle.catalogue.specs.Header.{concepts, axioms}
 use Rattle.catalogue.specs.Outcome.{accepted}
 use Rattle.catalogue.specs.Checks.{checked}
 use Rattle.catalogue.specs.WellFormed.{WellFormed}
 use Rattle.catalogue.proofs.Accepted.{accepted-well-formed}
-use Rattle.rows.specs.Bits.{bit, countBelow, place}
+use Rattle.rows.specs.Bits.{bit, place}
 use Rattle.rows.proofs.Counting.{count-none}
 use Rattle.rows.proofs.Bits.{bit-zeros}
 use Rattle.booleans.proofs.Booleans.{not-both, not-true-false}
 use Rattle.rules.specs.Axioms.{Axioms, InRange, none, catalogueAxioms}
 use Rattle.rules.specs.Rules.{Expression, fact, Closure}
-use Rattle.rules.specs.Counts.{sum, countOver, Size}
 use Rattle.rules.proofs.Axioms.{catalogue-axioms-exact}
 use Rattle.rules.proofs.NoAxioms.{none-derived}
+use Rattle.rules.proofs.Counts.{empty-size}
 use Rattle.layout.specs.Layout.{shapeOf, rowOf}
 use Rattle.rows.proofs.Places.{place-within}
 use Rattle.layout.proofs.Places.{rowOf-below}
@@ -34,7 +34,6 @@ use Rattle.lookups.specs.Answers.{lookedUp}
 use Rattle.lookups.specs.declared.pairs.Looked.the-variants.{Refused}
 use Rattle.lookups.proofs.DemandLookup.{no-axioms-absent}
 use Rattle.store.proofs.Stored.{marks-fresh}
-use Rattle.classification.proofs.Sums.{sum-zero}
 use Rattle.worked.specs.Calls.{ClassifyGives}
 use Rattle.worked.proofs.Classifying.{classify-gives}
 
@@ -83,24 +82,6 @@ module _ (b store : List ℕ) (zero : take (used b) store ≡ replicate (used b)
       subst (λ (x : ℕ). x < 256)
       (sym (getD-replicate (used b) i 0 0 l) ∙ ap (λ (xs : List ℕ). getD xs i 0) (sym zero) ∙ getD-take (used b) store i 0 l)
       (lit< tt))
-
--- ---- an empty set
-
-nothing-counted : (b : List ℕ) → countOver b (λ e. false) ≡ 0
-unfolding countOver
-nothing-counted b =
-    sum-zero (λ c. sum (λ g. countBelow (λ d. false) (concepts b)) (suc (roles b))) (concepts b)
-    (λ c lc.
-    sum-zero (λ g. countBelow (λ d. false) (concepts b)) (suc (roles b))
-    (λ g lg. count-none (λ d. false) (concepts b) (λ d ld. refl)))
-
-empty-size : (b : List ℕ) (S : Expression → Type 0) → ((e : Expression) → ¬ (S e)) → Size b S 0
-empty-size b S empty = record {
-  test = λ e. false;
-  decides = λ e. (λ h. absurd (false≢true h), λ s. absurd (empty e s));
-  within = λ e s. absurd (empty e s);
-  counted = sym (nothing-counted b);
-}
 
 -- ---- the calls
 

@@ -1,7 +1,7 @@
 -- `both_marked` meets its contract: the row's bits are the marks of what occurs.
 use mathlib.Core.Path.{sym, ap₂, _∙_}
 use mathlib.Core.Bool.{_&&_}
-use Rattle.lookups.proofs.Acceptance.{every-two}
+use Rattle.store.proofs.Checks.{every-two}
 use borrow.Author.Needs.{needs}
 use Rattle.lookups.proofs.checks.both_marked.Statement.{statement}
 use Rattle.lookups.proofs.checks.both_marked.Tie as tie

@@ -8,9 +8,9 @@ use borrow.Author.Tests.{not-true, not-false}
 use Rattle.catalogue.specs.Header.{concepts}
 use Rattle.catalogue.proofs.Outcomes.{ask-yes, ask-no}
 use Rattle.layout.specs.Parts.{inForce, spareClear}
-use Rattle.store.specs.Checks.{axiomsInLimit, askSpare, askLimit}
-use Rattle.lookups.specs.Checks.{every, askNumbers, askOccurs, contentChecks}
-use Rattle.lookups.proofs.Acceptance.{numbers-below}
+use Rattle.store.specs.Checks.{every, axiomsInLimit, askSpare, askLimit, askNumbers}
+use Rattle.lookups.specs.Checks.{askOccurs, contentChecks}
+use Rattle.store.proofs.Checks.{numbers-below}
 use borrow.Author.Needs.{needs}
 use Rattle.lookups.proofs.checks.check_content.Statement.{statement}
 use Rattle.lookups.proofs.checks.check_content.Tie as tie
