@@ -16,13 +16,13 @@ use Rattle.rows.specs.Bits.{bit, place}
 use Rattle.rows.proofs.Counting.{some-none, none-below}
 use Rattle.booleans.proofs.Booleans.{not-both}
 use Rattle.rules.specs.Axioms.{InRange}
-use Rattle.rules.specs.Rules.{fact, pair, link}
+use Rattle.rules.specs.Rules.{Expression, fact, pair, link, Bounded}
 use Rattle.layout.specs.declared.Shape.{Shape}
 use Rattle.layout.specs.Layout.{shapeOf, rowOf, table, marks, tableLength, blockLength}
 use Rattle.rows.proofs.Places.{place-within, some-factor}
 use Rattle.layout.proofs.Places.{rowOf-below}
 use Rattle.rows.proofs.RowParts.{bit-mid}
-use Rattle.layout.proofs.BlockRows.{marks-bit, table-elim}
+use Rattle.layout.proofs.BlockRows.{marks-bit, marks-elim, table-elim}
 use Rattle.layout.specs.Parts.{width, used, axiomRowAt, pairRowAt, linkRowAt, rowAt, axiomRows, setRows, inForce, held, rowCount, setFrom, spareClear}
 use Rattle.layout.proofs.StoreSizes.{table-long, block-long, used-split, rows-split, width-fits}
 use Rattle.layout.proofs.Sizes.{shape-table}
@@ -160,4 +160,19 @@ in-force-range b store clear c d e =
           (not-both e
           (in-force-bit b store c d (m .concept) (m .bit-below)
           ∙ spare-clear b store clear c d (omega (arith, m .concept, rows-split b)) (omega arith) (m .bit-below)))
+    ]
+
+-- And so are the pairs and links held.
+pub held-bounded : (b store : List ℕ) → spareClear b store ≡ true → (e : Expression) → held b store e ≡ true → Bounded b e
+unfolding held shapeOf width
+held-bounded b store clear (fact c g d) e =
+    let m = marks-elim (shapeOf b) (setRows b store) c g d e in
+    let row = rowOf-below (shapeOf b) c g (m .concept) (m .group) in
+    elim (decLt d (concepts b)) [
+      | yes l ↦ (m .concept, m .group, l)
+      | no n ↦
+          absurd
+          (not-both e
+          (held-bit b store c g d (m .concept) (m .group) (m .bit-below)
+          ∙ spare-clear b store clear (concepts b + rowOf (shapeOf b) c g) d (omega (arith, row, rows-split b)) (omega arith) (m .bit-below)))
     ]
