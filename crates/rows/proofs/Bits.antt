@@ -215,10 +215,10 @@ same-bits xs ys bx by l e =
 
 -- ---- a part that was lent and written
 
--- What setting a bit in the part from a to e does to the whole.
-pub set-part : (xs : List ℕ) (a e i : ℕ) → a ≤ e → e ≤ length xs → i < 8 * (e - a) → putMid a (e - a) xs (setBit (midOf a (e - a) xs) i) ≡ setBit xs (8 * a + i)
-unfolding setBit
-set-part xs a e i h l p =
+-- A byte changed in a lent part is that byte of the whole; so is a bit that is set or cleared there.
+part-byte : (f : ℕ → ℕ → ℕ) (xs : List ℕ) (a e i : ℕ) → a ≤ e → e ≤ length xs → i < 8 * (e - a)
+    → putMid a (e - a) xs (set (midOf a (e - a) xs) (i / 8) (f (getD (midOf a (e - a) xs) (i / 8) 0) (i % 8))) ≡ set xs ((8 * a + i) / 8) (f (getD xs ((8 * a + i) / 8) 0) ((8 * a + i) % 8))
+part-byte f xs a e i h l p =
     let inside : i / 8 < e - a = omega arith in
     let long : length (midOf a (e - a) xs) ≡ e - a = mid-len a e xs l in
     let byte : getD (midOf a (e - a) xs) (i / 8) 0 ≡ getD xs (a + i / 8) 0 =
@@ -226,6 +226,14 @@ set-part xs a e i h l p =
     in
     let q : (8 * a + i) / 8 ≡ a + i / 8 = omega arith in
     let r : (8 * a + i) % 8 ≡ i % 8 = omega arith in
-    set-mid-at a (e - a) (i / 8) xs (bitOr (getD (midOf a (e - a) xs) (i / 8) 0) (2 ^ (i % 8))) (omega arith)
-    ∙ ap (λ (y : ℕ). set xs (a + i / 8) (bitOr y (2 ^ (i % 8)))) byte
-    ∙ ap₂ (λ (m k : ℕ). set xs m (bitOr (getD xs m 0) (2 ^ k))) (sym q) (sym r)
+    set-mid-at a (e - a) (i / 8) xs (f (getD (midOf a (e - a) xs) (i / 8) 0) (i % 8)) (omega arith)
+    ∙ ap (λ (y : ℕ). set xs (a + i / 8) (f y (i % 8))) byte
+    ∙ ap₂ (λ (m k : ℕ). set xs m (f (getD xs m 0) k)) (sym q) (sym r)
+
+pub set-part : (xs : List ℕ) (a e i : ℕ) → a ≤ e → e ≤ length xs → i < 8 * (e - a) → putMid a (e - a) xs (setBit (midOf a (e - a) xs) i) ≡ setBit xs (8 * a + i)
+unfolding setBit
+set-part = part-byte (λ y k. bitOr y (2 ^ k))
+
+pub clear-part : (xs : List ℕ) (a e i : ℕ) → a ≤ e → e ≤ length xs → i < 8 * (e - a) → putMid a (e - a) xs (clearBit (midOf a (e - a) xs) i) ≡ clearBit xs (8 * a + i)
+unfolding clearBit
+clear-part = part-byte (λ y k. bitAnd y (255 - 2 ^ k))

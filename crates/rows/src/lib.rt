@@ -62,6 +62,16 @@ pub fn put_in_row(rows: &mut [u8], w: usize, r: usize, i: usize)
     put(&mut rows[start..end], i);
 }
 
+// Clears bit i of row r in a block of rows of w bytes: the row is lent on as its own part of the block.
+pub fn clear_in_row(rows: &mut [u8], w: usize, r: usize, i: usize)
+    requires { ⌜ (r * w + w ≤ length (now rows)) × (i < 8 * w) ⌝ }
+    ensures { λ _. ⌜ now (rows .exit) ≡ clearBit (now (rows .entry)) (8 * (r * w) + i) ⌝ }
+{
+    let start = r * w;
+    let end = start + w;
+    clear(&mut rows[start..end], i);
+}
+
 // Sets in a row each bit that is set in another of the same length.
 pub fn or_into(row: &mut [u8], other: &[u8])
     requires { ⌜ length (now other) ≡ length (now row) ⌝ }
