@@ -9,9 +9,10 @@ use denote.Ref.{RefT, ptr, now}
 use Rattle.catalogue.specs.Outcome.{Outcome, accepted, refused}
 use Rattle.rules.specs.Rules.{pair}
 use Rattle.layout.specs.Parts.{width, pairRowAt, held}
+use Rattle.lists.specs.Lists.{Filled}
 use Rattle.lookups.specs.Checks.{readChecks, listChecks}
 use Rattle.lookups.specs.Answers.{looked, lookedUp}
-use Rattle.lookups.specs.Listings.{kindsUnder, listed, listAfter, Lists, Filled}
+use Rattle.lookups.specs.Listings.{kindsUnder, listed, listAfter, Lists}
 use Rattle.lookups.specs.Rows.{handed, rowAnswer, Within, Names, HandsOut}
 use Rattle.lookups.specs.declared.handing.Handed.{Handed}
 use Rattle.lookups.specs.declared.pairs.Looked.the-variants as looks

@@ -1,12 +1,11 @@
 -- The entries of a listing: from a store classified afresh its names rise and stand in front of the list, two bytes each.
-use Prim.Native.Nat.{ℕ, zero, suc, _+_, _*_, _%_, _/_, _≤_, _<_}
-use native.Mathlib.Nat.{not-suc-le-zero, le-of-suc-le-suc}
+use Prim.Native.Nat.{ℕ, _*_, _≤_, _<_}
 use native.Mathlib.Omega.{arith}
 use mathlib.Core.Path.{_≡_, refl, sym, ap, subst, _∙_}
-use mathlib.Core.List.{List, [], _∷_, _++_}
-use lib.ListN.{length, getD, drop}
+use mathlib.Core.List.{List, [], _∷_}
+use lib.ListN.{length, getD}
 use Rattle.catalogue.specs.Header.{concepts}
-use Rattle.catalogue.specs.Words.{word, bytesOf}
+use Rattle.catalogue.specs.Words.{word}
 use Rattle.catalogue.specs.Outcome.{Outcome, accepted, refused}
 use Rattle.catalogue.specs.Checks.{checked}
 use Rattle.catalogue.proofs.Accepted.{accepted-well-formed}
@@ -17,26 +16,17 @@ use Rattle.layout.specs.Parts.{inForce}
 use Rattle.store.specs.Fresh.{Fresh}
 use Rattle.store.specs.Written.{axiomCount}
 use Rattle.store.proofs.Rising.{rising-lists}
-use Rattle.store.proofs.Records.{word-later}
 use Rattle.store.proofs.Checks.{marked-axioms, every-one}
+use Rattle.lists.specs.Lists.{withFront}
+use Rattle.lists.proofs.Filling.{front-entry}
 use Rattle.lookups.specs.Checks.{listChecks}
-use Rattle.lookups.specs.Listings.{atomicUnder, kindsUnder, withFront, listed, listAfter, Lists}
+use Rattle.lookups.specs.Listings.{atomicUnder, kindsUnder, listed, listAfter, Lists}
 use Rattle.lookups.specs.Meaning.{ListingFinds}
 use Rattle.lookups.specs.declared.kinds.Listed.{Listed}
 use Rattle.lookups.specs.declared.kinds.Listed.the-variants.{Count, Refused}
 use Rattle.lookups.proofs.Acceptance.{list-named}
 use Rattle.lookups.proofs.DemandListing.{listing-means, listed-exact}
 use Rattle.lookups.proofs.Unique.{refused-keeps}
-
--- ---- the entries of a list
-
--- Number i of those that stand in front.
-front-entry : (names rest : List ℕ) (i : ℕ) → i < length names → word (bytesOf names ++ rest) (2 * i) ≡ getD names i 0
-unfolding word bytesOf
-front-entry [] rest i l = absurd (not-suc-le-zero l)
-front-entry (n ∷ names) rest zero l = omega arith
-front-entry (n ∷ names) rest (suc i) l =
-    word-later (n % 256) (n / 256) (bytesOf names ++ rest) (2 * suc i) (2 * i) (omega arith) ∙ front-entry names rest i (le-of-suc-le-suc l)
 
 -- ---- a listing from a fresh store
 
@@ -71,8 +61,7 @@ module _ (b : List ℕ) (F : Axioms) (store : List ℕ) (catalogue : checked b �
         occurs-exact b F (accepted-well-formed catalogue) range d .0 (own ∙ sym (every-one (occurs b (inForce b store)) d) ∙ m .occur)
 
     entry-is : (k : ℕ) → r ≡ Count k → (i : ℕ) → i < length names → word after (2 * i) ≡ getD names i 0
-    unfolding withFront
-    entry-is k e i l = ap (λ (xs : List ℕ). word xs (2 * i)) (after-is k e) ∙ front-entry names (drop (2 * length names) list) i l
+    entry-is k e i l = ap (λ (xs : List ℕ). word xs (2 * i)) (after-is k e) ∙ front-entry names list i l
 
     -- What a listing from a fresh store finds, and how it stands in the list.
     pub listing-finds : ListingFinds b F d (kindsUnder b d store) list r after

@@ -1,6 +1,5 @@
 pub mod Acceptance
 pub mod Answered
-pub mod Filling
 pub mod Unique
 pub mod Partitions
 pub mod DemandLookup

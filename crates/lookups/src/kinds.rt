@@ -1,15 +1,15 @@
 // Listing of the atomic concepts under one.
 ghost use mathlib.Core.Path.{_≡_};
-ghost use Prim.Native.Nat.{_+_, _*_, _≤_, _<_};
+ghost use Prim.Native.Nat.{_*_, _≤_, _<_};
 ghost use lib.ListN.{length};
 ghost use Rattle.catalogue.specs.Header.{concepts};
 ghost use Rattle.layout.specs.Parts.{Sized};
-ghost use Rattle.lookups.specs.Listings.{atomicUnder, kindsUnder, Lists, Filled, Entered};
+ghost use Rattle.lists.specs.Lists.{Filled};
+ghost use Rattle.lookups.specs.Listings.{atomicUnder, kindsUnder, Lists};
 use super::checks::check_listing;
 use super::pairs::has_pair;
 use catalogue::Concept;
 use catalogue::Verdict;
-use reader::put_number;
 
 // What a listing answers.
 pub enum Listed {
@@ -26,18 +26,6 @@ fn atomic_under(b: &[u8], c: usize, d: usize, store: &[u8]) -> bool
     (concept.kind == Concept::ATOMIC) & has_pair(b, c, d, store)
 }
 
-// Enters concept c after so many others, if it is atomic and under d, and answers how many there are then.
-fn enter(b: &[u8], c: usize, d: usize, store: &[u8], list: &mut [u8], count: usize) -> usize
-    requires { ⌜ Sized (now b) (now store) × (c < concepts (now b)) × (d < concepts (now b)) × (2 * count + 1 < length (now list)) ⌝ }
-    ensures { λ r. ⌜ Entered (atomicUnder (now (b .entry)) (now (store .entry)) d c) c count (now (list .entry)) r (now (list .exit)) ⌝ }
-{
-    if atomic_under(b, c, d, store) {
-        put_number(list, 2 * count, c);
-        return count + 1;
-    }
-    count
-}
-
 // Enters the atomic concepts under d, rising, and answers how many there are.
 fn list_under(b: &[u8], d: usize, store: &[u8], list: &mut [u8]) -> usize
     requires { ⌜ Sized (now b) (now store) × (d < concepts (now b)) × (2 * concepts (now b) ≤ length (now list)) ⌝ }
@@ -47,7 +35,7 @@ fn list_under(b: &[u8], d: usize, store: &[u8], list: &mut [u8]) -> usize
     let mut count: usize = 0;
     let mut c = 0;
     while c < n {
-        count = enter(b, c, d, store, list, count);
+        count = lists::enter(list, count, c, atomic_under(b, c, d, store));
         c += 1;
     }
     count

@@ -7,8 +7,9 @@ use mathlib.Core.Path.{_≡_, refl, subst, _∙_}
 use lib.ListN.{length}
 use borrow.Author.Needs.{needs}
 use Rattle.store.specs.Written.{rising}
-use Rattle.lookups.specs.Listings.{atomicUnder, kindsUnder, Filled}
-use Rattle.lookups.proofs.Filling.{filled-none, filled-most, filled-step}
+use Rattle.lists.specs.Lists.{Filled}
+use Rattle.lists.proofs.Filling.{filled-none, filled-most, filled-step}
+use Rattle.lookups.specs.Listings.{atomicUnder, kindsUnder}
 use Rattle.lookups.proofs.kinds.list_under.Statement.{statement}
 use Rattle.lookups.proofs.kinds.list_under.Tie as tie
 
@@ -25,27 +26,34 @@ concepts-requires c κs = search needs
 loop-holds : tie.Need-loop-holds Inv-loop μ-loop
 loop-holds c = (omega arith, refl, filled-none _ _)
 
-enter-requires : tie.Need-enter-requires Inv-loop μ-loop
-enter-requires c κs =
+atomic-under-requires : tie.Need-atomic-under-requires Inv-loop μ-loop
+atomic-under-requires c κs =
     let (sized, below, room) = c .before .before .before .before .before .before .before .pre in
-    let (most, long, filled) = c .before .before .loop .inv in
     let n = c .before .before .before .concepts .ensures in
     let test = c .before .loop-test .taken in
-    (sized, omega arith, below, omega (arith, filled-most _ _ filled))
+    (sized, omega arith, below)
+
+enter-requires : tie.Need-enter-requires Inv-loop μ-loop
+enter-requires c κs =
+    let (sized, below, room) = c .before .before .before .before .before .before .before .before .pre in
+    let (most, long, filled) = c .before .before .before .loop .inv in
+    let n = c .before .before .before .before .concepts .ensures in
+    let test = c .before .before .loop-test .taken in
+    (omega (arith, filled-most _ _ filled), omega (arith, sized .well-formed .concepts-limit))
 
 add-c : tie.Need-add-c Inv-loop μ-loop
-add-c c = omega (arith, c .before .before .before .before .loop-test .taken, c .before .before .before .before .before .before .concepts .ensures, c .before .before .before .before .before .before .before .before .before .before .pre .0 .well-formed .concepts-limit)
+add-c c = omega (arith, c .before .before .before .before .before .loop-test .taken, c .before .before .before .before .before .before .before .concepts .ensures, c .before .before .before .before .before .before .before .before .before .before .before .pre .0 .well-formed .concepts-limit)
 
 loop-less : tie.Need-loop-less Inv-loop μ-loop
-loop-less c = omega (arith, c .before .before .before .before .loop-test .taken)
+loop-less c = omega (arith, c .before .before .before .before .before .loop-test .taken)
 
 loop-again : tie.Need-loop-again Inv-loop μ-loop
 loop-again c =
-    let (sized, below, room) = c .before .before .before .before .before .before .before .before .before .before .pre in
-    let (most, long, filled) = c .before .before .before .before .before .loop .inv in
-    let n = c .before .before .before .before .before .before .concepts .ensures in
-    let test = c .before .before .before .before .loop-test .taken in
-    (omega arith, c .before .before .enter .kept .1 .1 .1 .1 .0 ∙ long, filled-step _ _ _ _ _ _ _ (omega (arith, filled-most _ _ filled)) filled (c .before .before .enter .ensures))
+    let (sized, below, room) = c .before .before .before .before .before .before .before .before .before .before .before .pre in
+    let (most, long, filled) = c .before .before .before .before .before .before .loop .inv in
+    let n = c .before .before .before .before .before .before .before .concepts .ensures in
+    let test = c .before .before .before .before .before .loop-test .taken in
+    (omega arith, c .before .before .enter .kept .0 ∙ long, filled-step _ _ _ _ _ _ _ (omega (arith, filled-most _ _ filled)) filled (c .before .before .before .atomic-under .ensures) (c .before .before .enter .ensures))
 
 same-length : tie.Need-same-length Inv-loop μ-loop
 same-length c = c .before .loop .inv .1
@@ -66,6 +74,7 @@ list-under-spec =
     μ-loop
     concepts-requires
     loop-holds
+    atomic-under-requires
     enter-requires
     add-c
     loop-less
