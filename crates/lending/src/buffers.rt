@@ -1,0 +1,49 @@
+// Buffers of zeros, as long as the largest catalogue asks: 512 concepts, 16 roles, rows of 64 bytes.
+use catalogue::Concept;
+ghost use Rattle.lending.specs.Zero.{Zero};
+
+// A row, the rows of one partition, those for each role, a table; a bit for each three roles.
+const ROW: usize = Concept::MAX / 8;
+
+const OWN: usize = (1 + Concept::ROLES) * ROW;
+
+const GIVEN: usize = Concept::ROLES * OWN;
+
+const TABLE: usize = Concept::MAX * ROW;
+
+const TRIPLES: usize = Concept::ROLES * Concept::ROLES * Concept::ROLES / 8;
+
+// One row.
+pub fn row() -> [u8; ROW]
+    ensures { λ r. ⌜ Zero 64 r ⌝ }
+{
+    [0u8; ROW]
+}
+
+// A bit for each three roles.
+pub fn triples() -> [u8; TRIPLES]
+    ensures { λ r. ⌜ Zero 512 r ⌝ }
+{
+    [0u8; TRIPLES]
+}
+
+// The rows of one partition.
+pub fn own_rows() -> [u8; OWN]
+    ensures { λ r. ⌜ Zero 1088 r ⌝ }
+{
+    [0u8; OWN]
+}
+
+// The rows of one partition for each role.
+pub fn role_rows() -> [u8; GIVEN]
+    ensures { λ r. ⌜ Zero 17408 r ⌝ }
+{
+    [0u8; GIVEN]
+}
+
+// A row for each concept.
+pub fn table() -> [u8; TABLE]
+    ensures { λ r. ⌜ Zero 32768 r ⌝ }
+{
+    [0u8; TABLE]
+}
