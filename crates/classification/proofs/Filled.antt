@@ -2,11 +2,11 @@
 use Prim.Native.Nat.{ℕ, _+_, _-_, _*_, _≤_}
 use native.Mathlib.Nat.{add-mul}
 use native.Mathlib.Omega.{arith}
-use mathlib.Core.Path.{_≡_, refl, sym, ap, ap₂, _∙_, subst, fun-ext}
-use mathlib.Core.List.{List, [], _++_, append-nil}
-use lib.ListN.{length, take, drop, replicate, take-append-drop, length-append, length-take, length-drop, drop-of-length-le}
-use lib.Seq.{take-all, take-at, drop-at, drop-drop, length-take-le}
-use borrow.Rule.Slice.PartMut.{putMid, midOf, postOf, take-put, post-is}
+use mathlib.Core.Path.{_≡_, sym, ap, ap₂, _∙_, subst, fun-ext}
+use mathlib.Core.List.{List, _++_}
+use lib.ListN.{length, take, drop, replicate, length-append, length-drop}
+use lib.Seq.{take-all, drop-at, drop-drop}
+use borrow.Rule.Slice.PartMut.{putMid, midOf}
 use Rattle.catalogue.specs.Header.{concepts, roles}
 use Rattle.catalogue.specs.WellFormed.{WellFormed}
 use Rattle.rows.specs.Bits.{countBits, Bytes}
@@ -21,9 +21,9 @@ use Rattle.layout.specs.Parts.{width, used, workUsed}
 use Rattle.store.specs.Fresh.{Fresh}
 use Rattle.layout.proofs.StoreSizes.{used-split, work-is-block, table-long, block-long, used-limit, table-limit}
 use Rattle.classification.specs.Classified.{UsedParts}
-use Rattle.closing.specs.Closing.{Closes}
+use Rattle.classification.specs.Closing.{Closes}
 use Rattle.rules.proofs.Bounds.{closure-bounded}
-use Rattle.store.proofs.Stored.{parts-marked}
+use Rattle.store.proofs.Stored.{put-behind, parts-marked}
 use Rattle.layout.proofs.Counted.{pairs-size, links-size}
 
 -- How the store came about: `rows` put at the front of it, and then `set` in its place behind them.
@@ -78,32 +78,17 @@ module _ (b rows set work store copied filled : List ℕ) (h : FilledFrom b rows
   sizes : PartSizes b store (shapeOf b)
   sizes = sizes-at b store (h .well-formed) (h .long)
 
-  copied-long : length copied ≡ length store
-  copied-long =
-      let z = sizes in
-      ap length (h .copied-is)
-      ∙ length-append rows (drop t store)
-      ∙ (let y : length rows + length (drop t store) ≡ length store = omega (arith, h .rows-long, length-drop t store) in y)
-
-  front : take t filled ≡ rows
-  front =
-      ap (take t) (h .filled-is)
-      ∙ take-put t (length store - t) copied set (let z = sizes in omega (arith, copied-long))
-      ∙ ap (take t) (h .copied-is)
-      ∙ take-at rows (drop t store) t (h .rows-long)
-
-  back : drop t filled ≡ set
-  back =
-      let within : t ≤ length copied = let z = sizes in omega (arith, copied-long) in
-      let post : postOf t (length store - t) copied ≡ [] =
-      post-is t (length store) copied (omega (arith, copied-long)) ∙ drop-of-length-le copied {i = length store} (omega (arith, copied-long)) in
-      ap (drop t) (h .filled-is)
-      ∙ drop-at (take t copied) (set ++ postOf t (length store - t) copied) t (length-take-le t copied within)
-      ∙ ap (λ (l : List ℕ). set ++ l) post
-      ∙ append-nil set
+  whole : length store ≡ length (rows ++ drop t store)
+  whole = let z = sizes in omega (arith, length-append rows (drop t store), h .rows-long, length-drop t store)
 
   parts : filled ≡ rows ++ set
-  parts = sym (take-append-drop t filled) ∙ ap₂ _++_ front back
+  parts =
+      h .filled-is
+      ∙ ap (λ (l : List ℕ). putMid t (length store - t) l set) (h .copied-is)
+      ∙ put-behind t (length store) rows (drop t store) (h .rows-long) whole set
+
+  back : drop t filled ≡ set
+  back = ap (drop t) parts ∙ drop-at rows set t (h .rows-long)
 
   set-held : Decides (marks (shapeOf b) set) (Closure b F)
   unfolding F

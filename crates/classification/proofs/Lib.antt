@@ -1,7 +1,7 @@
 pub mod Checks
 pub mod Unique
 pub mod DemandTwo
-pub mod Zeros
+pub mod FromNothing
 pub mod AxiomTable
 pub mod Filled
 pub mod Putting

@@ -1,17 +1,17 @@
 -- The catalogue's axioms put into the first rows of a store: the rows are cleared, marked, and copied.
-use Prim.Native.Nat.{ℕ, _+_, _*_, _≤_}
-use native.Mathlib.Omega.{arith}
-use mathlib.Core.Path.{_≡_, refl, sym, ap, ap₂, _∙_, subst}
+use Prim.Native.Nat.{ℕ, _+_, _*_}
+use mathlib.Core.Path.{_≡_, refl, sym, ap, ap₂, _∙_}
 use mathlib.Core.Bool.{Bool, true, false, _&&_, _||_, and-false}
-use mathlib.Core.List.{List, [], _++_, append-nil}
+use mathlib.Core.List.{List, _++_}
 use lib.Dec.{ltb}
-use lib.ListN.{length, take, drop, replicate, drop-of-length-le}
-use lib.Seq.{take-at, drop-at, take-all}
-use Rattle.rows.specs.Bits.{bit, place}
+use lib.ListN.{length, take, drop, replicate}
+use lib.Seq.{take-at, drop-at}
+use Rattle.rows.specs.Bits.{place}
 use Rattle.rows.proofs.Bits.{bit-zeros}
 use Rattle.rules.specs.Axioms.{catalogueAxioms}
 use Rattle.layout.specs.declared.Shape.{Shape}
 use Rattle.layout.specs.Layout.{table, tableLength}
+use Rattle.lending.proofs.Copies.{copied-all}
 use Rattle.classification.specs.AxiomRows.{MarksAxioms, PutsAxioms}
 
 -- A table of zeros holds no axiom.
@@ -52,9 +52,4 @@ pub copied-rows : (k n : ℕ) (rows rest table copied : List ℕ) → length row
     → copied ≡ take n (take k (rows ++ rest)) ++ drop n table → copied ≡ rows
 copied-rows k n rows rest table copied lr lt e is =
     let front : take k (rows ++ rest) ≡ rows = take-at rows rest k lr in
-    let all : n ≡ length rows = e ∙ ap length front in
-    is
-    ∙ ap₂ (λ (x y : List ℕ). x ++ y)
-    (ap (take n) front ∙ take-all n rows (omega (arith, all)))
-    (drop-of-length-le table {i = n} (omega (arith, all)))
-    ∙ append-nil rows
+    copied-all n (take k (rows ++ rest)) table copied (lt ∙ sym (ap length front ∙ lr)) e is ∙ front

@@ -1,3 +1,3 @@
-pub mod Zero
 pub mod Classified
 pub mod AxiomRows
+pub mod Closing

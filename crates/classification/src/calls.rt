@@ -1,13 +1,13 @@
 // Classify: questions 1 to 11, and then the store and the work space filled.
 use super::Classified;
 use super::axioms::put_axioms;
-use super::buffers::table;
-use super::lending::run;
+use super::closing::close;
 use catalogue::Verdict;
 use catalogue::check;
 use layout::Shape;
 use layout::used;
 use layout::work_used;
+use lending::buffers::table;
 use rows::count;
 use store::store_fits;
 use store::work_fits;
@@ -27,7 +27,7 @@ fn fill(b: &[u8], store: &mut [u8], work: &mut [u8]) -> Classified
     let end = store.len();
     let mut axioms = table();
     put_axioms(b, s, store, &mut axioms[..pairs]);
-    run(b, s, &axioms[..pairs], &mut store[pairs..end], work);
+    close(b, s, &axioms[..pairs], &mut store[pairs..end], work);
     let pair_count = count(&store[pairs..links]);
     let link_count = count(&store[links..end]);
     Classified::Done(pair_count, link_count)

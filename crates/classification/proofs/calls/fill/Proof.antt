@@ -13,7 +13,7 @@ use Rattle.rows.proofs.RowParts.{prefix-long, front-of}
 use Rattle.layout.specs.Layout.{table, blockLength, tableLength}
 use Rattle.layout.proofs.Sizes.{sizes as shape-limits}
 use Rattle.layout.proofs.StoreSizes.{work-is-block}
-use Rattle.closing.specs.Closing.{Closes}
+use Rattle.classification.specs.Closing.{Closes}
 use Rattle.classification.proofs.Filled.{shaped, part-sizes, store-filled}
 use borrow.Author.Needs.{needs}
 use Rattle.classification.proofs.calls.fill.Statement.{statement}
@@ -102,9 +102,9 @@ array-share-prefix-axioms c =
     let put = c .before .before .before .put-axioms in
     omega (arith, put .ensures .rows-long, length-append (put .last .1 .1 .1 .0) (drop t (zeros .result)))
 
-slice-aggregate-run : tie.Need-slice-aggregate-run
+slice-aggregate-close : tie.Need-slice-aggregate-close
 unfolding tableLength
-slice-aggregate-run c =
+slice-aggregate-close c =
     let entry = c .before .before .before .before .before .before .before .before .before .before .before .before .before in
     let shape = c .before .before .before .before .before .before .before .before .before .of in
     let b = entry .args .b .now in
@@ -117,9 +117,9 @@ slice-aggregate-run c =
     let same : take t (put .last .1 .1 .1 .0 ++ drop t (zeros .result)) ≡ put .last .1 .1 .1 .0 = front-of t 32768 (put .last .1 .1 .1 .0) (zeros .result) (put .kept .1 .1 .1 .0) (zeros .ensures .long) (limits .table-limit) in
     sym (ap length same ∙ put .ensures .rows-long)
 
-sub-run : tie.Need-sub-run
+sub-close : tie.Need-sub-close
 unfolding tableLength
-sub-run c =
+sub-close c =
     let entry = c .before .before .before .before .before .before .before .before .before .before .before .before .before in
     let shape = c .before .before .before .before .before .before .before .before .before .of in
     let b = entry .args .b .now in
@@ -129,9 +129,9 @@ sub-run c =
     let parts = part-sizes b store (shape .result) (shape .ensures) (entry .pre .well-formed) (entry .pre .store-long) in
     omega (arith, parts .whole)
 
-part-run-start : tie.Need-part-run-start
+part-close-start : tie.Need-part-close-start
 unfolding tableLength
-part-run-start c =
+part-close-start c =
     let entry = c .before .before .before .before .before .before .before .before .before .before .before .before .before in
     let shape = c .before .before .before .before .before .before .before .before .before .of in
     let b = entry .args .b .now in
@@ -141,12 +141,12 @@ part-run-start c =
     let parts = part-sizes b store (shape .result) (shape .ensures) (entry .pre .well-formed) (entry .pre .store-long) in
     omega (arith, parts .whole)
 
-part-run-end : tie.Need-part-run-end
-part-run-end c = search needs
+part-close-end : tie.Need-part-close-end
+part-close-end c = search needs
 
-run-requires : tie.Need-run-requires
+close-requires : tie.Need-close-requires
 unfolding tableLength
-run-requires c κs =
+close-requires c κs =
     let entry = c .before .before .before .before .before .before .before .before .before .before .before .before .before .before .before in
     let shape = c .before .before .before .before .before .before .before .before .before .before .before .of in
     let b = entry .args .b .now in
@@ -186,7 +186,7 @@ part-count-end c =
     let parts = part-sizes b store (shape .result) (shape .ensures) (entry .pre .well-formed) (entry .pre .store-long) in
     let zeros = c .before .before .before .before .before .before .before .before .before .before .before .before .before .before .before .table in
     let put = c .before .before .before .before .before .before .before .before .before .before .before .before .put-axioms in
-    let closed = c .before .before .before .before .before .run in
+    let closed = c .before .before .before .before .before .close in
     let long : length (putMid t (length store - t) (put .last .1 .1 .0) (closed .last .1 .1 .1 .0)) ≡ length store = same-len-mid t (length store - t) (put .last .1 .1 .0) (closed .last .1 .1 .1 .0) (closed .kept .1 .1 .1 .0) ∙ put .kept .1 .1 .0 in
     omega (arith, parts .whole, parts .half)
 
@@ -202,7 +202,7 @@ count-requires c κs =
     let parts = part-sizes b store (shape .result) (shape .ensures) (entry .pre .well-formed) (entry .pre .store-long) in
     let zeros = c .before .before .before .before .before .before .before .before .before .before .before .before .before .before .before .before .table in
     let put = c .before .before .before .before .before .before .before .before .before .before .before .before .before .put-axioms in
-    let closed = c .before .before .before .before .before .before .run in
+    let closed = c .before .before .before .before .before .before .close in
     omega (arith, parts .table-limit, length-take ((t + t) - t) (drop t (putMid t (length store - t) (put .last .1 .1 .0) (closed .last .1 .1 .1 .0))))
 
 sub-count-2 : tie.Need-sub-count-2
@@ -244,7 +244,7 @@ count-requires-2 c κs =
     let parts = part-sizes b store (shape .result) (shape .ensures) (entry .pre .well-formed) (entry .pre .store-long) in
     let zeros = c .before .before .before .before .before .before .before .before .before .before .before .before .before .before .before .before .before .before .before .table in
     let put = c .before .before .before .before .before .before .before .before .before .before .before .before .before .before .before .before .put-axioms in
-    let closed = c .before .before .before .before .before .before .before .before .before .run in
+    let closed = c .before .before .before .before .before .before .before .before .before .close in
     omega (arith, parts .limit, length-take (length store - (t + t)) (drop (t + t) (putMid t (length store - t) (put .last .1 .1 .0) (closed .last .1 .1 .1 .0))))
 
 same-length : tie.Need-same-length
@@ -259,12 +259,12 @@ same-length c =
     let parts = part-sizes b store (shape .result) (shape .ensures) (entry .pre .well-formed) (entry .pre .store-long) in
     let zeros = c .before .before .before .before .before .before .before .before .before .before .before .before .before .before .before .before .before .before .before .before .table in
     let put = c .before .before .before .before .before .before .before .before .before .before .before .before .before .before .before .before .before .put-axioms in
-    let closed = c .before .before .before .before .before .before .before .before .before .before .run in
+    let closed = c .before .before .before .before .before .before .before .before .before .before .close in
     same-len-mid t (length store - t) (put .last .1 .1 .0) (closed .last .1 .1 .1 .0) (closed .kept .1 .1 .1 .0) ∙ put .kept .1 .1 .0
 
 same-length-2 : tie.Need-same-length-2
 same-length-2 c =
-    c .before .before .before .before .before .before .before .before .before .before .run .kept .1 .1 .1 .1 .0
+    c .before .before .before .before .before .before .before .before .before .before .close .kept .1 .1 .1 .1 .0
 
 returns : tie.Need-returns
 unfolding tableLength
@@ -278,7 +278,7 @@ returns c =
     let parts = part-sizes b store (shape .result) (shape .ensures) (entry .pre .well-formed) (entry .pre .store-long) in
     let zeros = c .before .before .before .before .before .before .before .before .before .before .before .before .before .before .before .before .before .before .before .before .table in
     let put = c .before .before .before .before .before .before .before .before .before .before .before .before .before .before .before .before .before .put-axioms in
-    let closed = c .before .before .before .before .before .before .before .before .before .before .run in
+    let closed = c .before .before .before .before .before .before .before .before .before .before .close in
     let same : take t (put .last .1 .1 .1 .0 ++ drop t (zeros .result)) ≡ put .last .1 .1 .1 .0 = front-of t 32768 (put .last .1 .1 .1 .0) (zeros .result) (put .kept .1 .1 .1 .0) (zeros .ensures .long) (limits .table-limit) in
     let middle : length (midOf t (length store - t) (put .last .1 .1 .0)) ≡ blockLength (shape .result) =
     mid-len t (length store) (put .last .1 .1 .0) (omega (arith, put .kept .1 .1 .0))
@@ -320,11 +320,11 @@ fill-spec =
     slice-aggregate-put-axioms
     put-axioms-requires
     array-share-prefix-axioms
-    slice-aggregate-run
-    sub-run
-    part-run-start
-    part-run-end
-    run-requires
+    slice-aggregate-close
+    sub-close
+    part-close-start
+    part-close-end
+    close-requires
     sub-count
     part-count-start
     part-count-end

@@ -1,4 +1,0 @@
-pub mod Seeding
-pub mod Concluding
-pub mod Seeded
-pub mod LeastSet
