@@ -1,0 +1,10 @@
+pub mod Asking
+pub mod Checks
+pub mod Members
+pub mod Sets
+pub mod Outcomes
+pub mod Unique
+pub mod Refusals
+pub mod Fresh
+pub mod Kept
+pub mod Wordings

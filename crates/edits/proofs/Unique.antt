@@ -1,0 +1,76 @@
+-- An edit leaves one outcome: two exits at equal entries are equal, the answer and every lent byte.
+use Prim.Native.Nat.{ℕ}
+use native.Mathlib.Omega.{arith}
+use mathlib.Core.Path.{_≡_, refl, sym, ap, ap₂, _∙_}
+use mathlib.Core.List.{List, _++_}
+use lib.ListN.{length, take-append-drop}
+use Rattle.catalogue.specs.Header.{concepts}
+use Rattle.catalogue.specs.Outcome.{Outcome, accepted, refused}
+use Rattle.derivation.specs.Decided.{Marked as Holding}
+use Rattle.derivation.specs.declared.Mode.{Mode}
+use Rattle.rules.specs.Axioms.{Axioms}
+use Rattle.rules.specs.Rules.{Expression}
+use Rattle.rules.specs.Changes.{OverDeleted, NewSet, ReturnedSet, GainedSet}
+use Rattle.rules.proofs.Counts.{size-unique}
+use Rattle.layout.specs.Parts.{used, inForce, held}
+use Rattle.store.proofs.Fresh.{marked-unique}
+use Rattle.lists.specs.Lists.{withFront}
+use Rattle.edits.specs.declared.Changed.{Changed}
+use Rattle.edits.specs.declared.Changed.the-variants.{Done, Refused}
+use Rattle.edits.specs.Answers.{outcomeOf, removedOf, returnedOf, gainedOf, touchedOf}
+use Rattle.edits.specs.Edits.{edited, Listed, Effects, Lent, lend, asked, Edits}
+use Rattle.edits.proofs.Checks.{edit-accepted}
+use Rattle.edits.proofs.Members.{members-unique}
+
+-- An answer is decided by its outcome and its four counts.
+pub refused-answer : (a : Changed) {number at : ℕ} → outcomeOf a ≡ refused number at → a ≡ Refused number at
+refused-answer (Done removed returned gained touched) e = let z : _≡_ {A = ℕ} 0 1 = cc in absurd (omega arith)
+refused-answer (Refused number at) e = cc
+
+pub accepted-answer : (a : Changed) {removed returned gained touched : ℕ} → outcomeOf a ≡ accepted → removedOf a ≡ removed → returnedOf a ≡ returned → gainedOf a ≡ gained
+    → touchedOf a ≡ touched → a ≡ Done removed returned gained touched
+accepted-answer (Done removed returned gained touched) e p q r s = cc
+accepted-answer (Refused number at) e p q r s = let z : _≡_ {A = ℕ} 0 1 = cc in absurd (omega arith)
+
+-- The effects leave one list of names, and one of each count.
+module _ (b : List ℕ) (m : Mode) (F G : Axioms) (H : Expression → Type 0) (names names' : List ℕ) (a a' : Changed) (p : Effects b m F G H names a) (q : Effects b m F G H names' a') where
+  names-unique : names ≡ names'
+  names-unique = members-unique (concepts b) (Listed b F G H m) names names' (p .listed) (q .listed)
+
+  pub effects-unique : outcomeOf a ≡ accepted → outcomeOf a' ≡ accepted → (a ≡ a') × (names ≡ names')
+  effects-unique e e' =
+      let removed = size-unique b (OverDeleted b F G H) (removedOf a) (removedOf a') (p .removed-counted) (q .removed-counted) in
+      let returned = size-unique b (ReturnedSet b F G H) (returnedOf a) (returnedOf a') (p .returned-counted) (q .returned-counted) in
+      let gained = size-unique b (GainedSet b F G H) (gainedOf a) (gainedOf a') (p .gained-counted) (q .gained-counted) in
+      let touched : touchedOf a ≡ touchedOf a' = p .touched-counted ∙ ap length names-unique ∙ sym (q .touched-counted) in
+      (accepted-answer a e removed returned gained touched ∙ sym (accepted-answer a' e' refl refl refl refl), names-unique)
+
+-- Buffers are the same where each of them is.
+pub same-buffers : {u v : Lent} → u .store ≡ v .store → u .work ≡ v .work → u .list ≡ v .list → u ≡ v
+same-buffers {u} {v} s w t = ap₂ (λ (x y : List ℕ). lend x y (u .list)) s w ∙ ap (lend (v .store) (v .work)) t
+
+module _ (m : Mode) (b : List ℕ) (l r : ℕ) (u : Lent) (a a' : Changed) (v v' : Lent) (p : Edits m b l r u a v) (q : Edits m b l r u a' v') where
+  unique-by : (o : Outcome) → asked m b l r u ≡ o → (a ≡ a') × (v ≡ v')
+  unique-by (refused number at) e =
+      let x = p .refuses number at e in
+      let y = q .refuses number at e in (
+        refused-answer a (x .answers) ∙ sym (refused-answer a' (y .answers)),
+        same-buffers (x .store-kept ∙ sym (y .store-kept)) (x .work-kept ∙ sym (y .work-kept)) (x .list-kept ∙ sym (y .list-kept)),
+      )
+  unique-by accepted e =
+      let x = p .accepts e in
+      let y = q .accepts e in
+      let F = inForce b (u .store) in
+      let G = edited m F l r in
+      let H = Holding (held b (u .store)) in
+      let (same, names) = effects-unique b m F G H (x .names) (y .names) a a' (x .effects) (y .effects) (x .answers) (y .answers) in
+      let front = marked-unique b G (NewSet b F G H) (v .store) (v' .store) (edit-accepted m b l r u e .well-formed) (x .marked) (y .marked) in (
+        same,
+        same-buffers
+            (sym (take-append-drop (used b) (v .store)) ∙ ap₂ _++_ front (x .store-rest ∙ sym (y .store-rest)) ∙ take-append-drop (used b) (v' .store))
+            (x .work-zero ∙ sym (y .work-zero))
+            (x .list-is ∙ ap (λ (ns : List ℕ). withFront ns (u .list)) names ∙ sym (y .list-is)),
+      )
+
+  pub edit-unique : (a ≡ a') × (v ≡ v')
+  edit-unique = unique-by (asked m b l r u) refl
