@@ -19,13 +19,13 @@ use Rattle.derivation.proofs.Computed.{over-computed, broken-computed, after-co
 use Rattle.derivation.proofs.Counts.{removed-counts, returned-counts, gained-counts}
 use Rattle.rules.specs.Axioms.{Axioms, InRange}
 use Rattle.rules.specs.Occurrence.{occurs}
-use Rattle.rules.specs.Rules.{Expression, fact, Inference, partition, EL, allowed, Permits, Closure, Bounded}
+use Rattle.rules.specs.Rules.{Expression, Inference, partition, EL, allowed, Permits, Closure}
 use Rattle.rules.specs.Changes.{OverDeleted, BrokenPartition, NewSet, ReturnedSet, GainedSet, GainingPartition}
 use Rattle.rules.specs.Counts.{Size}
 use Rattle.rules.specs.Presentation.{size, number, expression, presentation}
 use Rattle.rules.proofs.Presentation.{presentation-numbered, numbered-exact}
 use Rattle.rules.proofs.Changes.{over-same, broken-same, after-same, permits-covered, closure-computed, change-closure}
-use Rattle.rules.proofs.Bounds.{closure-bounded}
+use Rattle.rules.proofs.Bounds.{partition-below, closure-bounded}
 use Rattle.rules.proofs.Counts.{numbered-count}
 use Rattle.worked.specs.Entries.{Rows, Changed}
 use Rattle.worked.specs.Computed.{passing, union, closureOf, removedOf, overRowsOf, returnedOf, gainedOf, brokenIn, brokenOf, gainingIn, gainingOf}
@@ -40,11 +40,6 @@ counts-same b G S P k same c = record {
   within = λ e p. numbered-exact b e .0 (c .within e (same e .1 p));
   counted = c .counted ∙ numbered-count b (c .test) G;
 }
-
--- The first concept of an expression within bounds is one of the catalogue's.
-partition-below : (b : List ℕ) (e : Expression) → Bounded b e → partition e < concepts b
-unfolding partition
-partition-below b (fact c g d) h = h .0
 
 module _ (b : List ℕ) (F G : Axioms) (wf : WellFormed b) (rangeF : InRange b F) (rangeG : InRange b G) where
   abbrev f : Finite (EL b)

@@ -4,12 +4,15 @@ pub mod Changed
 pub mod Accepted
 pub mod Stores
 pub mod Classifying
+pub mod Editing
 pub mod W1
 pub mod W3
 pub mod W6
 pub mod W7
 pub mod W8
 pub mod Limits
+pub mod W10
 pub mod Reading
+pub mod EditedExamples
 pub mod Examples
 pub mod Worked

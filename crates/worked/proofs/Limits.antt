@@ -19,11 +19,11 @@ most-accepted = atomic-accepted 512 (lit≤ tt) (lit≤ tt)
 pub too-many-refused : checked (atomicConcepts 513) ≡ refused 3 0
 too-many-refused = atomic-too-many 513 (lit≤ tt)
 
-most-used : used (atomicConcepts 512) ≡ 65536
+pub most-used : used (atomicConcepts 512) ≡ 65536
 unfolding atomicConcepts atomicHeader bytesOf word concepts roles width used
 most-used = refl
 
-most-work : workUsed (atomicConcepts 512) ≡ 32768
+pub most-work : workUsed (atomicConcepts 512) ≡ 32768
 unfolding atomicConcepts atomicHeader bytesOf word concepts roles width workUsed
 most-work = refl
 

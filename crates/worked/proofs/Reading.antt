@@ -28,9 +28,10 @@ use Rattle.store.specs.Written.{numbered, axiomCount, rising}
 use Rattle.store.specs.Fresh.{Fresh}
 use Rattle.store.specs.Checks.{every, storeFits, listFits, askStore, askList, askSpare, askNumbers}
 use Rattle.store.proofs.Examples.{w1-axiom-count, w1-written}
+use Rattle.lists.specs.Lists.{withFront}
 use Rattle.lookups.specs.Checks.{askOccurs, openChecks, contentChecks, readChecks, listChecks}
 use Rattle.lookups.specs.Answers.{lookedUp}
-use Rattle.lookups.specs.Listings.{atomicUnder, kindsUnder, withFront, listed, listAfter}
+use Rattle.lookups.specs.Listings.{atomicUnder, kindsUnder, listed, listAfter}
 use Rattle.lookups.specs.Rows.{rowAnswer}
 use Rattle.lookups.specs.declared.pairs.Looked.the-variants.{Yes, No, Refused}
 use Rattle.lookups.specs.declared.handing.Handed.the-variants.{Row}
@@ -47,14 +48,14 @@ use Rattle.worked.specs.Table.{axioms1, axioms3}
 use Rattle.worked.proofs.W1.{range1, w1-classified, w1-fresh, w1-split}
 use Rattle.worked.proofs.W3.{range3}
 
-seven : concepts w1 ≡ 7
+pub seven : concepts w1 ≡ 7
 unfolding word concepts w1
 seven = refl
 
 few1 : axiomCount w1 axioms1 ≤ 4096
 few1 = omega (arith, w1-axiom-count)
 
-w3-axiom-count : axiomCount w1 axioms3 ≡ 2
+pub w3-axiom-count : axiomCount w1 axioms3 ≡ 2
 unfolding closureOf w1 countBelow numbered axiomCount
 w3-axiom-count = refl
 

@@ -1,9 +1,11 @@
 -- W3 to W5: withdraw (1,5), and add it back.
+use Prim.Native.Nat.{ℕ}
 use native.Mathlib.Omega.{arith}
-use mathlib.Core.Path.{_≡_, refl}
+use mathlib.Core.Path.{_≡_, refl, subst, _∙_}
 use mathlib.Core.Bool.{false}
-use mathlib.Core.List.{[], _∷_}
-use lib.ListN.{length}
+use mathlib.Core.List.{List, [], _∷_}
+use lib.ListN.{length, take}
+use lib.Seq.{take-all}
 use Rattle.catalogue.specs.Examples.{w1}
 use lib.Dec.{lit<}
 use Rattle.catalogue.specs.Words.{word}
@@ -11,6 +13,7 @@ use Rattle.catalogue.specs.Header.{concepts}
 use Rattle.rules.specs.Axioms.{InRange}
 use Rattle.rules.proofs.Axioms.{added-in-range, withdrawn-in-range}
 use Rattle.store.specs.Fresh.{Fresh}
+use Rattle.store.proofs.Fresh.{fresh-unique}
 use Rattle.store.proofs.Examples.{w1-lengths}
 use Rattle.worked.specs.Stores.{w3Store}
 use Rattle.worked.specs.Entries.{Classified, Changed}
@@ -88,6 +91,11 @@ w3-store-bytes = refl
 
 pub w3-fresh : Fresh w1 axioms3 w3Store
 w3-fresh = fresh-computed w1 axioms3 w3Store w1-well-formed range3 (omega (arith, w1-lengths .0, w3-store-long)) w3-store-axioms w3-store-set w3-store-bytes
+
+pub w3-front : (store : List ℕ) → Fresh w1 axioms3 store → take 35 store ≡ w3Store
+w3-front store fresh =
+    subst (λ (k : ℕ). take k store ≡ take k w3Store) (w1-lengths .0) (fresh-unique w1 axioms3 axioms3 store w3Store w1-well-formed (λ c d. refl) fresh w3-fresh)
+    ∙ take-all 35 w3Store (omega (arith, w3-store-long))
 
 -- ---- added back
 

@@ -46,7 +46,7 @@ w7-classified = classified w7 axioms7 w7-well-formed range7 7 0 (7 ∷ 6 ∷ 6 �
 
 -- ---- the store
 
-w7-lengths : (used w7 ≡ 6) × (workUsed w7 ≡ 3)
+pub w7-lengths : (used w7 ≡ 6) × (workUsed w7 ≡ 3)
 unfolding w7 word concepts roles width used workUsed
 w7-lengths = (refl, refl)
 

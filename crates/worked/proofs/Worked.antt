@@ -11,7 +11,6 @@ use Rattle.rules.specs.Axioms.{none}
 use Rattle.rules.specs.Occurrence.{left-side, right-side}
 use Rattle.rules.specs.Rules.{Expression, Closure}
 use Rattle.rules.specs.Changes.{NewSet}
-use Rattle.rules.proofs.Axioms.{added-back}
 use Rattle.rules.proofs.NoAxioms.{none-occurs, none-derived}
 use Rattle.store.specs.Fresh.{Fresh}
 use Rattle.store.proofs.Examples.{w1-lengths, w9-set, w9-none}
@@ -19,12 +18,15 @@ use Rattle.worked.specs.Stores.{w1Store}
 use Rattle.worked.specs.Computed.{closureOf}
 use Rattle.worked.specs.Table.{axioms1, axioms3, axioms5, Worked}
 use Rattle.worked.proofs.Classifying.{classify-refuses}
+use Rattle.worked.proofs.Editing.{w10-in-force, w10-new}
+use Rattle.worked.proofs.EditedExamples.{w5-axioms, w3-withdraw, w5-add, w6-withdraw, w7-withdraw}
 use Rattle.worked.proofs.W1.{w1-classified, w1-fresh, w1-rows, w1-front, w1-classify}
-use Rattle.worked.proofs.W3.{w3-change, w3-left, w3-fresh, w5-change}
+use Rattle.worked.proofs.W3.{w3-change, w3-left, w3-fresh, w3-front, w5-change}
 use Rattle.worked.proofs.W6.{w6-change}
 use Rattle.worked.proofs.W7.{w7-classified, w7-fresh, w7-rows, w7-classify, w7-change, w7-left}
 use Rattle.worked.proofs.W8.{w8-classify, w8-lookup}
 use Rattle.worked.proofs.Limits.{most-accepted, most-classified, too-many-refused}
+use Rattle.worked.proofs.W10.{w10-met-in-force, w10-met-new}
 use Rattle.worked.proofs.Reading.{w2-yes, w2-no, w2-lookups, w1-row, w1-listing3, w1-listing6, w1-write, w4-absent, w4-lookups, w9-lookup}
 use Rattle.worked.proofs.Examples.{example1-classified, example3-changed, example3-over, example3-classified, example4-classified, example4-changed, example4-over, example4-left-classified}
 
@@ -33,16 +35,9 @@ in-force04 : axioms1 0 4 ≡ true
 unfolding closureOf w1
 in-force04 = refl
 
-in-force15 : axioms1 1 5 ≡ true
-unfolding closureOf w1
-in-force15 = refl
-
 in-force63 : axioms1 6 3 ≡ true
 unfolding closureOf w1
 in-force63 = refl
-
-w5-axioms : axioms5 ≡ axioms1
-w5-axioms = added-back axioms1 1 5 in-force15
 
 w5-set : (e : Expression) → NewSet w1 axioms3 axioms5 (Closure w1 axioms3) e ↔ Closure w1 axioms1 e
 w5-set e = subst (λ F. NewSet w1 axioms3 axioms5 (Closure w1 axioms3) e ↔ Closure w1 F e) w5-axioms (w5-change .after e)
@@ -68,16 +63,21 @@ worked = record {
   W2-occur = (left-side in-force04, right-side in-force63);
   W2-lookups = w2-lookups;
   W3 = w3-change;
+  W3-withdraw = w3-withdraw;
+  W3-store = w3-front;
   W3-left = w3-left;
   W3-fresh = w3-fresh;
   W4 = w4-absent;
   W4-lookups = w4-lookups;
   W5 = w5-change;
   W5-back = (w5-axioms, w5-set);
+  W5-add = w5-add;
   W5-store = w5-store;
   W6 = w6-change;
+  W6-withdraw = w6-withdraw;
   W7 = w7-classified;
   W7-change = w7-change;
+  W7-withdraw = w7-withdraw;
   W7-left = w7-left;
   W7-classify = w7-classify;
   W7-rows = w7-rows;
@@ -89,6 +89,10 @@ worked = record {
   W9 = w9-set;
   W9-lookup = w9-lookup;
   W9-none = w9-none;
+  W10-in-force = w10-in-force;
+  W10-new = w10-new;
+  W10-met-in-force = w10-met-in-force;
+  W10-met-new = w10-met-new;
   bytes-19 = nineteen-bytes;
   bytes-19-classify = λ b e. classify-refuses b 1 0 (nineteen-bytes b e);
   n-512 = most-accepted;

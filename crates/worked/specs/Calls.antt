@@ -1,11 +1,23 @@
--- What the worked examples say of the calls classify, listing and write: of every exit that the contract allows.
-use Prim.Native.Nat.{ℕ, _≤_}
+-- What the worked examples say of the calls classify, add, withdraw, listing and write: of every exit that the contract allows.
+use Prim.Native.Nat.{ℕ, _*_, _≤_, _<_}
 use mathlib.Core.Path.{_≡_}
+use mathlib.Core.Bool.{Bool, true}
 use mathlib.Core.List.{List, _++_}
 use lib.ListN.{length, take, drop}
+use Rattle.catalogue.specs.Header.{concepts}
+use Rattle.catalogue.specs.Outcome.{accepted}
+use Rattle.catalogue.specs.Checks.{checked}
+use Rattle.derivation.specs.declared.Mode.{Mode}
+use Rattle.rules.specs.Axioms.{Axioms}
+use Rattle.layout.specs.Parts.{used, workUsed, inForce, spareClear}
+use Rattle.store.specs.Fresh.{Fresh}
+use Rattle.store.specs.Written.{axiomCount}
 use Rattle.classification.specs.Classified.{Classifies}
 use Rattle.classification.specs.declared.Classified.{Classified}
 use Rattle.classification.specs.declared.Classified.the-variants.{Done, Refused}
+use Rattle.edits.specs.Edits.{Lent, Edits, Adds}
+use Rattle.edits.specs.declared.Changed.{Changed}
+use Rattle.edits.specs.declared.Changed.the-variants as edit
 use Rattle.lookups.specs.Listings.{Lists}
 use Rattle.lookups.specs.declared.kinds.Listed.{Listed}
 use Rattle.lookups.specs.declared.kinds.Listed.the-variants.{Count}
@@ -29,6 +41,49 @@ ClassifyRefuses b number at =
     (store work : List ℕ) (answer : Classified) (store' work' : List ℕ)
     → Classifies b store work answer store' work'
     → (answer ≡ Refused number at) × (store' ≡ store) × (work' ≡ work)
+
+-- An edit of the axiom (l, r), lent a store that is classified afresh from F, and a work space and a list of these lengths or more: it answers this, leaves
+-- these bytes in front of the list, where the others stay, and the store classified afresh from G.
+abbrev pub EditGives : (m : Mode) (b : List ℕ) (l r : ℕ) (F G : Axioms) (workLength listLength : ℕ) (given : Changed) (front : List ℕ) → Type 0
+EditGives m b l r F G workLength listLength given front =
+    (u : Lent) (answer : Changed) (v : Lent)
+    → Edits m b l r u answer v
+    → Fresh b F (u .store)
+    → workLength ≤ length (u .work)
+    → listLength ≤ length (u .list)
+    → (answer ≡ given) × Fresh b G (v .store) × (v .list ≡ front ++ drop (length front) (u .list))
+
+-- An edit is lent what questions 1 to 15 ask for, with 4,096 axioms in force.
+pub record Full (b : List ℕ) (l r : ℕ) (u : Lent) : Type 0 where
+  pub catalogue : checked b ≡ accepted
+  pub store-long : used b ≤ length (u .store)
+  pub work-long : workUsed b ≤ length (u .work)
+  pub list-long : 2 * concepts b ≤ length (u .list)
+  pub clear : spareClear b (u .store) ≡ true
+  pub full : axiomCount b (inForce b (u .store)) ≡ 4096
+  pub left-there : l < concepts b
+  pub right-there : r < concepts b
+
+-- Add of (l, r), lent these buffers, refuses by this number, and every buffer keeps its bytes.
+abbrev pub AddRefuses : (b : List ℕ) (l r : ℕ) (u : Lent) (number : ℕ) → Type 0
+AddRefuses b l r u number =
+    (answer : Changed) (v : Lent)
+    → Adds b l r u answer v
+    → (answer ≡ edit.Refused number 0) × (v ≡ u)
+
+-- Where 4,096 are in force, add refuses by this number if the axiom is in force, or is not.
+abbrev pub FullRefuses : (there : Bool) (number : ℕ) → Type 0
+FullRefuses there number =
+    (b : List ℕ) (l r : ℕ) (u : Lent)
+    → Full b l r u
+    → inForce b (u .store) l r ≡ there
+    → AddRefuses b l r u number
+
+-- Buffers that show that this is met: 4,096 axioms are in force in the store, this one among them or not, and add refuses by the number.
+pub record MeetsFull (b : List ℕ) (l r : ℕ) (u : Lent) (there : Bool) (number : ℕ) : Type 0 where
+  pub full : Full b l r u
+  pub there-is : inForce b (u .store) l r ≡ there
+  pub refuses : AddRefuses b l r u number
 
 -- Listing under D, lent a list of this length or more, answers this count and leaves these bytes in front of the list; the others stay.
 abbrev pub ListingGives : (b : List ℕ) (d : ℕ) (store : List ℕ) (listLength count : ℕ) (front : List ℕ) → Type 0

@@ -1,8 +1,8 @@
 -- The worked table (document 01, Examples; document 001, Examples 1, 3 and 4): catalogues, sets, counts, touched concepts, and stores, about
--- the definitions; and what classify, lookup, row, listing and write answer. What a call answers is said of every exit that its contract allows. What
+-- the definitions; and what classify, add, withdraw, lookup, row, listing and write answer. What a call answers is said of every exit that its contract allows. What
 -- is read of W1 to W4, of every store classified afresh; of W8, of every store whose used part is zero; of W9, of W1's store with a spare bit set.
 use Prim.Native.Nat.{ℕ, _+_, _*_, _<_}
-use mathlib.Core.Bool.{true}
+use mathlib.Core.Bool.{true, false}
 use mathlib.Core.Path.{_≡_}
 use mathlib.Core.Logic.{_↔_}
 use mathlib.Core.List.{List, [], _∷_, map}
@@ -13,6 +13,7 @@ use Rattle.catalogue.specs.Header.{concepts, axioms, conceptsAt, inclusionsAt, 
 use Rattle.catalogue.specs.Outcome.{accepted, refused}
 use Rattle.catalogue.specs.Checks.{checked}
 use Rattle.catalogue.specs.Examples.{w1, headerAlone}
+use Rattle.derivation.specs.declared.Mode.the-variants.{Add, Delete}
 use Rattle.rules.specs.Axioms.{Axioms, catalogueAxioms, none, added, withdrawn}
 use Rattle.rules.specs.Occurrence.{Occurs}
 use Rattle.rules.specs.Rules.{Expression, pair, Closure}
@@ -22,13 +23,14 @@ use Rattle.store.specs.Fresh.{Fresh}
 use Rattle.store.specs.Checks.{askSpare}
 use Rattle.store.specs.Written.{rising}
 use Rattle.store.specs.Examples.{atomicConcepts}
+use Rattle.edits.specs.declared.Changed.the-variants.{Done}
 use Rattle.lookups.specs.Answers.{lookedUp}
 use Rattle.lookups.specs.Rows.{rowAnswer}
 use Rattle.lookups.specs.declared.pairs.Looked.the-variants.{Yes, No, Refused}
 use Rattle.lookups.specs.declared.handing.Handed.the-variants.{Row}
 use Rattle.worked.specs.Catalogues.{w7, example1, example4}
-use Rattle.worked.specs.Stores.{w1Store, w3Store, w7Store}
-use Rattle.worked.specs.Calls.{ClassifyGives, ClassifyRefuses, ListingGives, WriteGives}
+use Rattle.worked.specs.Stores.{w1Store, w3Store, w7Store, fullLent}
+use Rattle.worked.specs.Calls.{ClassifyGives, ClassifyRefuses, EditGives, FullRefuses, MeetsFull, ListingGives, WriteGives}
 use Rattle.worked.specs.Entries.{Rows, Classified, Changed}
 
 -- W1's axioms; without (1,5); with that added back; with (0,3) as well; and that without (1,5).
@@ -96,6 +98,8 @@ pub record Worked : Type 0 where
   -- ---- W3 to W6
   -- W3: withdraw (1,5): removed 10, returned 0, gained 0; touched 0, 1, 4, 5; 8 pairs, 3 links.
   pub W3 : Changed w1 axioms1 axioms3 10 0 0 (0 ∷ 1 ∷ 4 ∷ 5 ∷ []) []
+  pub W3-withdraw : EditGives Delete w1 1 5 axioms1 axioms3 28 14 (Done 10 0 0 4) (0 ∷ 0 ∷ 1 ∷ 0 ∷ 4 ∷ 0 ∷ 5 ∷ 0 ∷ [])
+  pub W3-store : (store : List ℕ) → Fresh w1 axioms3 store → take 35 store ≡ w3Store
   pub W3-left : Classified w1 axioms3 8 3 (17 ∷ 2 ∷ 4 ∷ 8 ∷ 16 ∷ 0 ∷ 72 ∷ [])
   pub W3-fresh : Fresh w1 axioms3 w3Store
   -- W4: then 5 does not occur, and lookup of 5 gives 19.
@@ -104,13 +108,16 @@ pub record Worked : Type 0 where
   -- W5: (1,5) added back gives W1's set, and W1's store.
   pub W5 : Changed w1 axioms3 axioms5 0 0 10 [] (0 ∷ 1 ∷ 4 ∷ 5 ∷ [])
   pub W5-back : (axioms5 ≡ axioms1) × ((e : Expression) → NewSet w1 axioms3 axioms5 (Closure w1 axioms3) e ↔ Closure w1 axioms1 e)
+  pub W5-add : EditGives Add w1 1 5 axioms3 axioms1 28 14 (Done 0 0 10 4) (0 ∷ 0 ∷ 1 ∷ 0 ∷ 4 ∷ 0 ∷ 5 ∷ 0 ∷ [])
   pub W5-store : (store : List ℕ) → Fresh w1 axioms5 store → take 35 store ≡ w1Store
   -- W6: with (0,3) also in force, W3 has removed 10, returned 1.
   pub W6 : Changed w1 axioms6 axioms6' 10 1 0 (0 ∷ 1 ∷ 4 ∷ 5 ∷ []) []
+  pub W6-withdraw : EditGives Delete w1 1 5 axioms6 axioms6' 28 14 (Done 10 1 0 4) (0 ∷ 0 ∷ 1 ∷ 0 ∷ 4 ∷ 0 ∷ 5 ∷ 0 ∷ [])
   -- ---- W7
   -- W7: 7 pairs; withdraw (0,1): removed 3, touched 0, 4 pairs left.
   pub W7 : Classified w7 axioms7 7 0 (7 ∷ 6 ∷ 6 ∷ [])
   pub W7-change : Changed w7 axioms7 axioms7' 3 0 0 (0 ∷ []) []
+  pub W7-withdraw : EditGives Delete w7 0 1 axioms7 axioms7' 3 6 (Done 3 0 0 1) (0 ∷ 0 ∷ [])
   pub W7-left : Classified w7 axioms7' 4 0 (0 ∷ 6 ∷ 6 ∷ [])
   -- Classify answers 7 pairs and no link, and leaves W7's store of 6 bytes: rows of axioms, and then the pair rows 7, 6, 6.
   pub W7-classify : ClassifyGives w7 6 3 7 0 w7Store
@@ -124,11 +131,17 @@ pub record Worked : Type 0 where
   pub W8-classify : (b : List ℕ) → checked b ≡ accepted → axioms b ≡ 0 → ClassifyGives b (used b) (workUsed b) 0 0 (replicate (used b) 0)
   -- Every lookup of two concepts in such a store gives 19.
   pub W8-lookup : (b store : List ℕ) → checked b ≡ accepted → take (used b) store ≡ replicate (used b) 0 → (c d : ℕ) → c < concepts b → d < concepts b → lookedUp b c d store ≡ Refused 19 0
-  -- ---- W9, and the limits
+  -- ---- W9, W10, and the limits
   -- W9: n = 7 with bit 7 of any row set: 13; n = 8: no spare bit, whatever the store.
   pub W9 : map (λ (r : ℕ). askSpare (spareClear w1 (setBit (replicate 35 0) (8 * r + 7))) accepted) (rising (λ (r : ℕ). true) 35) ≡ replicate 35 (refused 13 0)
   pub W9-lookup : map (λ (r : ℕ). lookedUp w1 0 3 (setBit w1Store (8 * r + 7))) (rising (λ (r : ℕ). true) 35) ≡ replicate 35 (Refused 13 0)
   pub W9-none : (store : List ℕ) → askSpare (spareClear (atomicConcepts 8) store) accepted ≡ accepted
+  -- W10: adding an axiom in force at 4,096: 16; a new one: 17.
+  pub W10-in-force : FullRefuses true 16
+  pub W10-new : FullRefuses false 17
+  -- Both are met, with 512 atomic concepts and the first 8 rows of axioms full: (0,0) is in force, and (8,0) is new.
+  pub W10-met-in-force : MeetsFull (atomicConcepts 512) 0 0 fullLent true 16
+  pub W10-met-new : MeetsFull (atomicConcepts 512) 8 0 fullLent false 17
   -- 19 bytes: 1. n 512 passes: a catalogue of 512 atomic concepts is accepted, whole, and classify of it, which has no axioms, answers no pair and no
   -- link; 513: 3. At every limit a header alone passes 3 too, and is refused by 4.
   pub bytes-19 : (b : List ℕ) → length b ≡ 19 → checked b ≡ refused 1 0
