@@ -1,63 +1,32 @@
 -- Classify of what was written.
-use Prim.Native.Nat.{ℕ, _+_, _*_, _/_, _≤_}
+use Prim.Native.Nat.{ℕ, _+_, _≤_}
 use native.Mathlib.Omega.{arith}
-use mathlib.Core.Path.{_≡_, refl, sym, ap, ap₂, subst, fun-ext, _∙_}
+use mathlib.Core.Path.{_≡_, refl, sym, ap, subst, _∙_}
 use mathlib.Core.Bool.{true}
 use mathlib.Core.List.{List, _++_}
 use lib.ListN.{length, take, drop}
 use lib.Seq.{take-at}
-use borrow.Author.Tests.{le-leb}
 use Rattle.catalogue.specs.Outcome.{Outcome, accepted}
 use Rattle.catalogue.specs.Checks.{checked}
 use Rattle.catalogue.specs.WellFormed.{WellFormed}
 use Rattle.catalogue.proofs.Outcomes.{ask-accepted, followed-both}
 use Rattle.catalogue.proofs.Passed.{checks-followed}
 use Rattle.catalogue.proofs.Accepted.{accepted-well-formed}
-use Rattle.rules.specs.Axioms.{Axioms, catalogueAxioms}
-use Rattle.layout.specs.Parts.{width, used, workUsed, inForce, spareClear}
+use Rattle.rules.specs.Axioms.{Axioms}
+use Rattle.layout.specs.Parts.{inForce, spareClear}
 use Rattle.store.specs.Fresh.{Fresh}
-use Rattle.store.specs.Checks.{storeFits, workFits, axiomsInLimit, askStore, askSpare, askLimit}
-use Rattle.store.specs.Written.{axiomCount, written, SameRecords}
-use Rattle.store.proofs.Checks.{axioms-few}
+use Rattle.store.specs.Checks.{storeFits, axiomsInLimit, askStore, askSpare, askLimit}
+use Rattle.store.specs.Written.{axiomCount, written}
+use Rattle.store.proofs.Checks.{axioms-few, marked-axioms}
 use Rattle.store.proofs.Fresh.{fresh-unique}
-use Rattle.store.proofs.SameRules.{used-same, fresh-written}
 use Rattle.layout.proofs.StoreRows.{in-force-range}
-use Rattle.store.proofs.Written.{written-same, written-accepted, written-axioms}
 use Rattle.writing.specs.Write.{storeChecks, writeChecks, ByOutcome, wrote, stays}
 use Rattle.writing.specs.declared.Wrote.{Wrote}
 use Rattle.writing.specs.declared.Wrote.the-variants.{Length}
-use Rattle.classification.specs.Classified.{classifyChecks}
-use Rattle.classification.proofs.Checks.{all-accepted}
-use Rattle.demands.specs.Demands.{ClassifiesAfresh, FreshByClassify, WriteThenClassify, ClassifyWriteClassify}
-use Rattle.demands.proofs.AfterClassify.{after-classify, in-force-own}
-
-work-same : (b w : List ℕ) → SameRecords b w → workUsed w ≡ workUsed b
-unfolding workUsed width
-work-same b w m = ap₂ (λ (n r : ℕ). n * ((n + 7) / 8) * (r + 1)) (m .concepts-same) (m .roles-same)
-
--- The catalogue with F as its axioms.
-pub fresh-by-classify : FreshByClassify
-unfolding storeFits workFits
-fresh-by-classify b F catalogue range few =
-    let wf : WellFormed b = accepted-well-formed catalogue in
-    let m = written-same b F wf in
-    let us = used-same b (written b F) m in
-    let ws = work-same b (written b F) m in
-    let own : catalogueAxioms (written b F) ≡ F = fun-ext (λ c. fun-ext (λ d. written-axioms b F wf range c d)) in
-    let ok : (s k : ℕ) → used b ≤ s → workUsed b ≤ k → classifyChecks (written b F) s k ≡ accepted =
-    λ s k ls lk.
-    all-accepted (written b F) s k (written-accepted b F wf few)
-    (le-leb (used (written b F)) s (omega (arith, us)))
-    (le-leb (workUsed (written b F)) k (omega (arith, ws)))
-    in
-    record {
-      same-used = us;
-      same-work = ws;
-      accepts = ok;
-      leaves = λ store work answer store' work' ls lk call.
-          fresh-written b F store' wf range few .1
-          (subst (λ (G : Axioms). Fresh (written b F) G store') own (call .accepts (ok (length store) (length work) ls lk) .fresh));
-    }
+use Rattle.demands.specs.Afresh.{ClassifiesAfresh}
+use Rattle.demands.specs.WriteBack.{WriteThenClassify, CallsWriteClassify}
+use Rattle.demands.proofs.Afresh.{fresh-by-classify}
+use Rattle.demands.proofs.AfterCalls.{after-calls}
 
 -- ---- what an accepted write says
 
@@ -97,10 +66,10 @@ written-classifies-alike b store output k output' fresh w =
           fresh-unique b (inForce b store) (inForce b store) store2' store wf (λ c d. refl) (afresh .leaves store2 work answer store2' work' ls lk call) fresh,
     )
 
-pub classify-write-classify : ClassifyWriteClassify
-classify-write-classify =
-    after-classify _
-    (λ b store u output k output' w.
-    let own = sym (in-force-own b store u) in
-    let (afresh, alike) = written-classifies-alike b store output k output' (subst (λ (F : Axioms). Fresh b F store) own (u .fresh)) w in
-    (subst (λ (F : Axioms). ClassifiesAfresh b F (take k output')) (sym own) afresh, alike))
+pub calls-write-classify : CallsWriteClassify
+calls-write-classify =
+    after-calls _
+    (λ b F store u output k output' w.
+    let own = sym (marked-axioms b F store (u .fresh)) in
+    let (afresh, alike) = written-classifies-alike b store output k output' (subst (λ (G : Axioms). Fresh b G store) own (u .fresh)) w in
+    (subst (λ (G : Axioms). ClassifiesAfresh b G (take k output')) (sym own) afresh, alike))

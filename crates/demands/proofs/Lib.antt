@@ -1,7 +1,11 @@
-pub mod AfterClassify
-pub mod Lookup
-pub mod Listing
-pub mod Row
-pub mod Write
+pub mod FreshStores
+pub mod Afresh
+pub mod Turns
+pub mod DemandThree
+pub mod AfterCalls
+pub mod Questions
+pub mod DemandOne
+pub mod DemandTwo
 pub mod ClassifyWritten
 pub mod Examples
+pub mod ExampleList

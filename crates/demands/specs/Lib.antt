@@ -1,1 +1,6 @@
-pub mod Demands
+pub mod Afresh
+pub mod Sequences
+pub mod PublicCalls
+pub mod DemandOne
+pub mod WriteBack
+pub mod DemandTwo

@@ -1,0 +1,186 @@
+-- Demand 1 of every public call.
+use Prim.Native.Nat.{ℕ, _≤_}
+use native.Mathlib.Omega.{arith}
+use mathlib.Core.Path.{_≡_, refl, sym, ap, subst, _∙_}
+use mathlib.Core.Bool.{Bool, true, false}
+use mathlib.Core.List.{List, [], _∷_, _++_, List·Memᴰ, List·Memᴰ·head, List·Memᴰ·tail, List·Memᴰ·not-nil}
+use lib.Dec.{eqb, lit≤}
+use lib.ListN.{length}
+use Rattle.catalogue.specs.Header.{concepts, inclusions, compositions, axioms}
+use Rattle.catalogue.specs.Outcome.{Outcome, accepted, refused, ask, askEach, firstFault}
+use Rattle.catalogue.specs.Checks.{headerFits, totalRight, countsInLimits, offsetsRight, kindRight, fieldsRight, inclusionRight, compositionRight, sidesRight, risingRight}
+use Rattle.catalogue.specs.Checks.{recordChecks, catalogueChecks, checked}
+use Rattle.catalogue.proofs.Outcomes.{never-both}
+use Rattle.catalogue.proofs.Accepted.{accepted-well-formed, accepted-total}
+use Rattle.layout.specs.Parts.{workUsed}
+use Rattle.store.proofs.Work.{work-stays}
+use Rattle.classification.proofs.Outcomes.{answer-outcome}
+use Rattle.edits.specs.Edits.{Lent}
+use Rattle.edits.proofs.Outcomes.{answer-outcome as edit-answer}
+use Rattle.writing.specs.Write.{ByOutcome, wrote, stays}
+use Rattle.writing.specs.declared.Wrote.{Wrote}
+use Rattle.lookups.specs.Answers.{looked, lookedUp}
+use Rattle.lookups.specs.Checks.{readChecks, listChecks}
+use Rattle.lookups.specs.Listings.{kindsUnder, listed, listAfter}
+use Rattle.lookups.specs.Rows.{handed, rowAnswer}
+use Rattle.lookups.proofs.DemandEntries.{listing-finds}
+use Rattle.demands.specs.PublicCalls.{PublicCall, classify, edit, lookup, listing, row, write, lookupOutcome, listOutcome, rowOutcome, writeOutcome}
+use Rattle.demands.specs.PublicCalls.{Returns, classifies, edits, looks-up, lists, hands-out, writes}
+use Rattle.demands.specs.DemandOne.{Fault, damagedCatalogue, Wrong, refusal, faults, ByFirst, none, here, later, Kept, RefusedFirst, DemandOne}
+use Rattle.demands.proofs.AfterCalls.{after-calls}
+use Rattle.demands.proofs.Questions.{classify-asked, edit-asked, read-asked, listing-asked, write-asked}
+
+-- ---- the numbers of a damaged catalogue
+
+-- A refusal by 1 to 9.
+record ToNine (o : Outcome) : Type 0 where
+  number-is : (number at : ℕ) → o ≡ refused number at → (1 ≤ number) × (number ≤ 9)
+
+nine-ask : (t : Bool) (number at : ℕ) (rest : Outcome) → 1 ≤ number → number ≤ 9 → ToNine rest → ToNine (ask t number at rest)
+unfolding ask
+nine-ask true number at rest low high more = more
+nine-ask false number at rest low high more = record { number-is = λ n i e. let same : number ≡ n = cc in (omega arith, omega arith) }
+
+nine-each : (ok : ℕ → Bool) (k number : ℕ) (rest : Outcome) → 1 ≤ number → number ≤ 9 → ToNine rest → ToNine (askEach ok k number rest)
+unfolding askEach
+nine-each ok k number rest low high more = nine-ask (eqb (firstFault ok k) k) number (firstFault ok k) rest low high more
+
+nine-questions : (b : List ℕ) → ToNine (checked b)
+unfolding checked catalogueChecks recordChecks
+nine-questions b =
+    nine-ask (headerFits b) 1 0 _ (lit≤ tt) (lit≤ tt)
+    (nine-ask (totalRight b) 2 0 _ (lit≤ tt) (lit≤ tt)
+    (nine-ask (countsInLimits b) 3 0 _ (lit≤ tt) (lit≤ tt)
+    (nine-ask (offsetsRight b) 4 0 _ (lit≤ tt) (lit≤ tt)
+    (nine-each (kindRight b) (concepts b) 5 _ (lit≤ tt) (lit≤ tt)
+    (nine-each (fieldsRight b) (concepts b) 6 _ (lit≤ tt) (lit≤ tt)
+    (nine-each (inclusionRight b) (inclusions b) 7 _ (lit≤ tt) (lit≤ tt)
+    (nine-each (compositionRight b) (compositions b) 7 _ (lit≤ tt) (lit≤ tt)
+    (nine-each (sidesRight b) (axioms b) 8 _ (lit≤ tt) (lit≤ tt)
+    (nine-each (risingRight b) (axioms b) 9 _ (lit≤ tt) (lit≤ tt)
+    (record { number-is = λ number at e. absurd (never-both accepted refl e) }))))))))))
+
+-- Every call asks about the catalogue first.
+after-catalogue : (c : PublicCall) → (fs : List Fault) × (faults c ≡ damagedCatalogue ∷ fs)
+after-catalogue classify = (_, refl)
+after-catalogue (edit m l r) = (_, refl)
+after-catalogue (lookup c d) = (_, refl)
+after-catalogue (listing d) = (_, refl)
+after-catalogue (row c) = (_, refl)
+after-catalogue write = (_, refl)
+
+-- ---- what follows from the first fault
+
+module _ (b : List ℕ) (u : Lent) where
+  none-accepted : {fs : List Fault} {o : Outcome} → ByFirst b u fs o → ((f : Fault) → List·Memᴰ f fs → ¬ (Wrong b u f)) → o ≡ accepted
+  none-accepted none clean = refl
+  none-accepted (here {f = f} w e) clean = absurd (clean f (List·Memᴰ·head refl) w)
+  none-accepted (later n x) clean = none-accepted x (λ f m. clean f (List·Memᴰ·tail m))
+
+  first-refuses : (before after : List Fault) (f : Fault) {fs : List Fault} {o : Outcome} → ByFirst b u fs o → fs ≡ before ++ (f ∷ after)
+      → ((g : Fault) → List·Memᴰ g before → ¬ (Wrong b u g)) → Wrong b u f → o ≡ refusal b f
+  first-refuses [] after f none e clean w = let z : _≡_ {A = ℕ} 0 1 = cc in absurd (omega arith)
+  first-refuses [] after f (here {f = g} x y) e clean w = let q : g ≡ f = cc in y ∙ ap (refusal b) q
+  first-refuses [] after f (later {f = g} n x) e clean w = let q : g ≡ f = cc in absurd (n (subst (Wrong b u) (sym q) w))
+  first-refuses (h ∷ before) after f none e clean w = let z : _≡_ {A = ℕ} 0 1 = cc in absurd (omega arith)
+  first-refuses (h ∷ before) after f (here {f = g} x y) e clean w = let q : g ≡ h = cc in absurd (clean h (List·Memᴰ·head refl) (subst (Wrong b u) q x))
+  first-refuses (h ∷ before) after f (later {fs = gs} n x) e clean w =
+      let q : gs ≡ before ++ (f ∷ after) = cc in
+      first-refuses before after f x q (λ g m. clean g (List·Memᴰ·tail m)) w
+
+  by-nine : (c : PublicCall) (o : Outcome) → ByFirst b u (faults c) o → Wrong b u damagedCatalogue
+      → (number : ℕ) × (at : ℕ) × (o ≡ refused number at) × (1 ≤ number) × (number ≤ 9)
+  by-nine c o first damaged = go (checked b) refl
+    where
+      same : o ≡ checked b
+      same = let (fs, e) = after-catalogue c in first-refuses [] fs damagedCatalogue first e (λ g m. absurd (List·Memᴰ·not-nil m)) damaged
+
+      go : (x : Outcome) → checked b ≡ x → (number : ℕ) × (at : ℕ) × (o ≡ refused number at) × (1 ≤ number) × (number ≤ 9)
+      go accepted e = absurd (damaged (accepted-well-formed e, accepted-total b e))
+      go (refused number at) e = let (low, high) = nine-questions b .number-is number at e in (number, at, same ∙ e, low, high)
+
+  refused-first : (c : PublicCall) (o : Outcome) (v : Lent) → ByFirst b u (faults c) o → ((number at : ℕ) → o ≡ refused number at → Kept b number u v)
+      → RefusedFirst b u c o v
+  refused-first c o v first keeps =
+      record {
+        by-first = first;
+        each = λ before after f e clean w. first-refuses before after f first e clean w;
+        damaged = by-nine c o first;
+        keeps = keeps;
+        all-else = none-accepted first;
+      }
+
+  -- A call that is lent nothing to write to.
+  read-only : (number : ℕ) → Kept b number u u
+  read-only number = record { store = refl; work = sym (work-stays (workUsed b) number (u .work)); list = refl }
+
+-- ---- the answers
+
+looked-outcome : (o : Outcome) (has : Bool) → lookupOutcome (looked o has) ≡ o
+looked-outcome accepted true = refl
+looked-outcome accepted false = refl
+looked-outcome (refused number at) has = refl
+
+listed-outcome : (o : Outcome) (names : List ℕ) → listOutcome (listed o names) ≡ o
+listed-outcome accepted names = refl
+listed-outcome (refused number at) names = refl
+
+handed-outcome : (o : Outcome) (offset size : ℕ) → rowOutcome (handed o offset size) ≡ o
+handed-outcome accepted offset size = refl
+handed-outcome (refused number at) offset size = refl
+
+wrote-outcome : {b store output output' : List ℕ} {o : Outcome} {a : Wrote} → ByOutcome b store output o a output' → writeOutcome a ≡ o
+wrote-outcome (wrote e) = refl
+wrote-outcome stays = refl
+
+write-keeps : {b store output output' : List ℕ} {o : Outcome} {a : Wrote} {number at : ℕ} → ByOutcome b store output o a output' → o ≡ refused number at
+    → output' ≡ output
+write-keeps (wrote e) q = let z : _≡_ {A = ℕ} 0 1 = cc in absurd (omega arith)
+write-keeps stays q = refl
+
+-- ---- each call
+
+calls : (b : List ℕ) (u : Lent) (c : PublicCall) (o : Outcome) (v : Lent) → Returns b u c o v → RefusedFirst b u c o v
+unfolding lookedUp rowAnswer
+calls b u c o v (classifies {a = a} {store = store} {work = work} call) =
+    let answer = answer-outcome b (u .store) (u .work) a store work call in
+    refused-first b u c o v (subst (ByFirst b u (faults c)) (sym answer) (classify-asked b u))
+    (λ number at e.
+    let r = call .refuses number at (sym answer ∙ e) in
+    record { store = r .store-kept; work = r .work-kept; list = refl })
+calls b u c o v (edits {m = m} {l = l} {r = r} {a = a} call) =
+    let answer = edit-answer m b l r u a v call in
+    refused-first b u c o v (subst (ByFirst b u (faults c)) (sym answer) (edit-asked b u m l r))
+    (λ number at e.
+    let k = call .refuses number at (sym answer ∙ e) in
+    record { store = k .store-kept; work = k .work-kept; list = k .list-kept })
+calls b u c o v (looks-up {c = x} {d = y} {a = a} e) =
+    let answer : o ≡ readChecks b (x ∷ y ∷ []) (u .store) = ap lookupOutcome e ∙ looked-outcome _ _ in
+    refused-first b u c o v (subst (ByFirst b u (faults c)) (sym answer) (read-asked b u (x ∷ y ∷ []))) (λ number at _. read-only b u number)
+calls b u c o v (lists {d = d} {a = a} {list = list} f) =
+    let names = kindsUnder b d (u .store) in
+    let checks = listChecks b (d ∷ []) (u .store) (length (u .list)) in
+    let answer : o ≡ checks = ap listOutcome (f .answer) ∙ listed-outcome checks names in
+    refused-first b u c o v (subst (ByFirst b u (faults c)) (sym answer) (listing-asked b u d))
+    (λ number at e.
+    record {
+      store = refl;
+      work = sym (work-stays (workUsed b) number (u .work));
+      list = f .entries ∙ ap (λ (x : Outcome). listAfter x names (u .list)) (sym answer ∙ e);
+    })
+calls b u c o v (hands-out {c = x} {a = a} store part same h e) =
+    let answer : o ≡ readChecks b (x ∷ []) (u .store) = ap rowOutcome (e ∙ ap (rowAnswer b x) same) ∙ handed-outcome _ _ _ in
+    refused-first b u c o v (subst (ByFirst b u (faults c)) (sym answer) (read-asked b u (x ∷ []))) (λ number at _. read-only b u number)
+calls b u c o v (writes {a = a} {output = output} w) =
+    let answer = wrote-outcome w in
+    refused-first b u c o v (subst (ByFirst b u (faults c)) (sym answer) (write-asked b u))
+    (λ number at e.
+    record { store = refl; work = sym (work-stays (workUsed b) number (u .work)); list = write-keeps w (sym answer ∙ e) })
+
+pub demand-one : DemandOne
+demand-one =
+    record {
+      calls = calls;
+      empty-list = after-calls _
+          (λ b F store u d list after f. listing-finds b F store (u .catalogue) (u .range) (u .few) (u .fresh) d list _ after f .means .empty .0 refl .2);
+    }

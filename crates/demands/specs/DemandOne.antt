@@ -1,0 +1,117 @@
+-- Demand 1, of every public call: what it is refused for, in which order and by which number; that a refusal changes nothing; that all else is accepted.
+use Prim.Native.Nat.{ℕ, _*_, _≤_, _<_}
+use mathlib.Core.Path.{_≡_}
+use mathlib.Core.Bool.{true, false}
+use mathlib.Core.List.{List, [], _∷_, _++_, List·Memᴰ}
+use lib.ListN.{length}
+use Rattle.rows.specs.Bits.{bit, place}
+use Rattle.catalogue.specs.Header.{total, concepts}
+use Rattle.catalogue.specs.Outcome.{Outcome, accepted, refused}
+use Rattle.catalogue.specs.Checks.{checked}
+use Rattle.catalogue.specs.WellFormed.{WellFormed}
+use Rattle.derivation.specs.declared.Mode.{Mode}
+use Rattle.derivation.specs.declared.Mode.the-variants.{Add, Delete}
+use Rattle.rules.specs.Occurrence.{Occurs}
+use Rattle.layout.specs.Parts.{width, used, workUsed, inForce, rowCount}
+use Rattle.store.specs.Work.{workAfter}
+use Rattle.store.specs.Written.{axiomCount, written}
+use Rattle.edits.specs.Edits.{Lent}
+use Rattle.lookups.specs.Listings.{Lists}
+use Rattle.lookups.specs.Meaning.{KindUnder}
+use Rattle.lookups.specs.declared.kinds.Listed.the-variants.{Count}
+use Rattle.demands.specs.Sequences.{AfterCalls}
+use Rattle.demands.specs.PublicCalls.{PublicCall, classify, edit, lookup, listing, row, write, Returns}
+
+-- "Refused first: a damaged catalogue, a buffer too short, a stray bit in a store, a concept number out of range, an axiom added twice or withdrawn when not
+-- in force, more than 4,096 axioms, a lookup of a concept that no axiom in force uses."
+pub data Fault : Type 0 where
+  damagedCatalogue : Fault
+  shortStore : Fault
+  shortWork : Fault
+  shortList : Fault
+  shortOutput : Fault
+  strayBit : Fault
+  outOfRange : (names : List ℕ) → Fault
+  addedTwice : (l r : ℕ) → Fault
+  notInForce : (l r : ℕ) → Fault
+  tooManyAxioms : Fault
+  noRoom : Fault
+  unused : (names : List ℕ) → Fault
+
+-- What each of them is, of a catalogue and the buffers lent.
+abbrev pub Wrong : List ℕ → Lent → Fault → Type 0
+Wrong b u damagedCatalogue = ¬ (WellFormed b × (total b ≡ length b))
+Wrong b u shortStore = length (u .store) < used b
+Wrong b u shortWork = length (u .work) < workUsed b
+Wrong b u shortList = length (u .list) < 2 * concepts b
+Wrong b u shortOutput = length (u .list) < length (written b (inForce b (u .store)))
+Wrong b u strayBit =
+    (r : ℕ) × (i : ℕ) × (r < rowCount b) × (concepts b ≤ i) × (i < 8 * width b) × (bit (u .store) (place (width b) r i) ≡ true)
+Wrong b u (outOfRange names) = (c : ℕ) × List·Memᴰ c names × (concepts b ≤ c)
+Wrong b u (addedTwice l r) = inForce b (u .store) l r ≡ true
+Wrong b u (notInForce l r) = inForce b (u .store) l r ≡ false
+Wrong b u tooManyAxioms = 4096 < axiomCount b (inForce b (u .store))
+Wrong b u noRoom = 4096 ≤ axiomCount b (inForce b (u .store))
+Wrong b u (unused names) = (c : ℕ) × List·Memᴰ c names × ¬ (Occurs b (inForce b (u .store)) c)
+
+-- "Each has its number": that of document 01's question. A damaged catalogue has 1 to 9, with the record at fault (catalogue's Checks).
+abbrev pub refusal : List ℕ → Fault → Outcome
+refusal b damagedCatalogue = checked b
+refusal b shortStore = refused 10 0
+refusal b shortWork = refused 11 0
+refusal b shortList = refused 12 0
+refusal b shortOutput = refused 20 0
+refusal b strayBit = refused 13 0
+refusal b (outOfRange names) = refused 15 0
+refusal b (addedTwice l r) = refused 16 0
+refusal b (notInForce l r) = refused 18 0
+refusal b tooManyAxioms = refused 14 0
+refusal b noRoom = refused 17 0
+refusal b (unused names) = refused 19 0
+
+-- What a call can be refused for, in the order in which it asks (document 01, Questions).
+abbrev pub editFaults : Mode → (l r : ℕ) → List Fault
+editFaults Add l r = addedTwice l r ∷ noRoom ∷ []
+editFaults Delete l r = notInForce l r ∷ []
+
+abbrev pub readFaults : List ℕ → List Fault
+readFaults names = strayBit ∷ tooManyAxioms ∷ outOfRange names ∷ unused names ∷ []
+
+abbrev pub faults : PublicCall → List Fault
+faults classify = damagedCatalogue ∷ shortStore ∷ shortWork ∷ []
+faults (edit m l r) =
+    damagedCatalogue ∷ shortStore ∷ shortWork ∷ shortList ∷ strayBit ∷ tooManyAxioms ∷ outOfRange (l ∷ r ∷ []) ∷ editFaults m l r
+faults (lookup c d) = damagedCatalogue ∷ shortStore ∷ readFaults (c ∷ d ∷ [])
+faults (listing d) = damagedCatalogue ∷ shortStore ∷ shortList ∷ readFaults (d ∷ [])
+faults (row c) = damagedCatalogue ∷ shortStore ∷ readFaults (c ∷ [])
+faults write = damagedCatalogue ∷ shortStore ∷ strayBit ∷ tooManyAxioms ∷ shortOutput ∷ []
+
+-- Refused for the first of them that is there, by its number and record; accepted where none is.
+pub data ByFirst (b : List ℕ) (u : Lent) : List Fault → Outcome → Type 0 where
+  none : ByFirst b u [] accepted
+  here : {f : Fault} {fs : List Fault} {o : Outcome} → Wrong b u f → o ≡ refusal b f → ByFirst b u (f ∷ fs) o
+  later : {f : Fault} {fs : List Fault} {o : Outcome} → ¬ (Wrong b u f) → ByFirst b u fs o → ByFirst b u (f ∷ fs) o
+
+-- Every byte lent is as it was, save work space where the number is laid down to zero it (`workAfter`: no number is today).
+pub record Kept (b : List ℕ) (number : ℕ) (u v : Lent) : Type 0 where
+  pub store : v .store ≡ u .store
+  pub work : v .work ≡ workAfter (workUsed b) number (u .work)
+  pub list : v .list ≡ u .list
+
+-- Demand 1 of a call that returned.
+pub record RefusedFirst (b : List ℕ) (u : Lent) (c : PublicCall) (o : Outcome) (v : Lent) : Type 0 where
+  -- "Refused first: .. Each has its number."
+  pub by-first : ByFirst b u (faults c) o
+  pub each : (before after : List Fault) (f : Fault) → faults c ≡ before ++ (f ∷ after) → ((g : Fault) → List·Memᴰ g before → ¬ (Wrong b u g)) → Wrong b u f
+      → o ≡ refusal b f
+  pub damaged : Wrong b u damagedCatalogue → (number : ℕ) × (at : ℕ) × (o ≡ refused number at) × (1 ≤ number) × (number ≤ 9)
+  -- "And a refused call changes no byte it was lent, save work space where its number is laid down to zero it."
+  pub keeps : (number at : ℕ) → o ≡ refused number at → Kept b number u v
+  -- "All else is accepted, ends, and answers."
+  pub all-else : ((f : Fault) → List·Memᴰ f (faults c) → ¬ (Wrong b u f)) → o ≡ accepted
+
+-- Demand 1.
+pub record DemandOne : Type 0 where
+  pub calls : (b : List ℕ) (u : Lent) (c : PublicCall) (o : Outcome) (v : Lent) → Returns b u c o v → RefusedFirst b u c o v
+  -- "From a store as in demand 3, an empty list comes only when no kind that occurs meets the wish."
+  pub empty-list : AfterCalls (λ b F store. (d : ℕ) (list after : List ℕ) → Lists b d store list (Count 0) after → (c : ℕ) → ¬ (KindUnder b F d c))

@@ -1,0 +1,68 @@
+-- The public calls (document 01, What it covers), as one family: each met its own contract, answered an outcome, and left its buffers in some state.
+use Prim.Native.Nat.{ℕ}
+use mathlib.Core.Path.{_≡_}
+use mathlib.Core.List.{List}
+use denote.Ref.{RefT, now}
+use Rattle.catalogue.specs.Outcome.{Outcome, accepted, refused}
+use Rattle.derivation.specs.declared.Mode.{Mode}
+use Rattle.classification.specs.Classified.{Classifies, outcomeOf as classifyOutcome}
+use Rattle.classification.specs.declared.Classified.{Classified}
+use Rattle.edits.specs.Answers.{outcomeOf as editOutcome}
+use Rattle.edits.specs.Edits.{Lent, lend, Edits}
+use Rattle.edits.specs.declared.Changed.{Changed}
+use Rattle.writing.specs.Write.{Writes}
+use Rattle.writing.specs.declared.Wrote.{Wrote}
+use Rattle.writing.specs.declared.Wrote.the-variants as writing
+use Rattle.lookups.specs.Answers.{lookedUp}
+use Rattle.lookups.specs.Listings.{Lists}
+use Rattle.lookups.specs.Rows.{rowAnswer, HandsOut}
+use Rattle.lookups.specs.declared.pairs.Looked.{Looked}
+use Rattle.lookups.specs.declared.pairs.Looked.the-variants as pairs
+use Rattle.lookups.specs.declared.kinds.Listed.{Listed}
+use Rattle.lookups.specs.declared.kinds.Listed.the-variants as kinds
+use Rattle.lookups.specs.declared.handing.Handed.{Handed}
+use Rattle.lookups.specs.declared.handing.Handed.the-variants as handing
+
+-- Classify; add or withdraw the axiom (l, r); look up (c, d); list the atomic kinds under d; hand out the row of c; write the current catalogue.
+pub data PublicCall : Type 0 where
+  classify : PublicCall
+  edit : Mode → (l r : ℕ) → PublicCall
+  lookup : (c d : ℕ) → PublicCall
+  listing : (d : ℕ) → PublicCall
+  row : (c : ℕ) → PublicCall
+  write : PublicCall
+
+-- ---- what an answer says of the questions: each accepted case, and the refusal with its number and record
+
+abbrev pub lookupOutcome : Looked → Outcome
+lookupOutcome pairs.Yes = accepted
+lookupOutcome pairs.No = accepted
+lookupOutcome (pairs.Refused number at) = refused number at
+
+abbrev pub listOutcome : Listed → Outcome
+listOutcome (kinds.Count k) = accepted
+listOutcome (kinds.Refused number at) = refused number at
+
+abbrev pub rowOutcome : Handed → Outcome
+rowOutcome (handing.Row offset size) = accepted
+rowOutcome (handing.Refused number at) = refused number at
+
+abbrev pub writeOutcome : Wrote → Outcome
+writeOutcome (writing.Length k) = accepted
+writeOutcome (writing.Refused number at) = refused number at
+
+-- ---- a call that returned
+
+-- With catalogue b a call was lent u, met its contract, answered an outcome, and left v. The third buffer is the list of an edit or of a listing, or
+-- write's output. A buffer that a call is not lent, or is lent for reading only, is the same in v.
+pub data Returns (b : List ℕ) (u : Lent) : PublicCall → Outcome → Lent → Type 0 where
+  classifies : {a : Classified} {store work : List ℕ} → Classifies b (u .store) (u .work) a store work
+      → Returns b u classify (classifyOutcome a) (lend store work (u .list))
+  edits : {m : Mode} {l r : ℕ} {a : Changed} {v : Lent} → Edits m b l r u a v → Returns b u (edit m l r) (editOutcome a) v
+  looks-up : {c d : ℕ} {a : Looked} → a ≡ lookedUp b c d (u .store) → Returns b u (lookup c d) (lookupOutcome a) u
+  lists : {d : ℕ} {a : Listed} {list : List ℕ} → Lists b d (u .store) (u .list) a list
+      → Returns b u (listing d) (listOutcome a) (lend (u .store) (u .work) list)
+  hands-out : {c : ℕ} {a : Handed} (store part : RefT (List ℕ)) → now store ≡ u .store → HandsOut b c store part → a ≡ rowAnswer b c (now store)
+      → Returns b u (row c) (rowOutcome a) u
+  writes : {a : Wrote} {output : List ℕ} → Writes b (u .store) (u .list) a output
+      → Returns b u write (writeOutcome a) (lend (u .store) (u .work) output)
