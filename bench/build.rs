@@ -2,8 +2,10 @@
 
 use std::path::Path;
 
-const FUNCTIONS: [&str; 5] = [
+const FUNCTIONS: [&str; 7] = [
     "girvotal_classify",
+    "girvotal_add",
+    "girvotal_withdraw",
     "girvotal_lookup",
     "girvotal_list",
     "girvotal_row",

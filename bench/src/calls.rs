@@ -1,8 +1,8 @@
 //! The library's calls with the results that `reference::calls` has.
 
 use crate::exported::{self, ENTRIES};
-use reference::calls::{Counts, Row};
-use reference::catalogue::Refusal;
+use reference::calls::{Changed, Counts, Row};
+use reference::catalogue::{Axiom, Refusal};
 
 /// What a returned number and the entries of the answer say.
 pub fn result(returned: usize, entries: [u64; ENTRIES]) -> Result<[usize; ENTRIES], Refusal> {
@@ -26,6 +26,38 @@ fn answered(call: impl FnOnce(&mut [u64]) -> usize) -> Result<[usize; ENTRIES], 
 pub fn classify(catalogue: &[u8], store: &mut [u8], work: &mut [u8]) -> Result<Counts, Refusal> {
     let [pairs, links, ..] = answered(|a| exported::classify(catalogue, store, work, a))?;
     Ok(Counts { pairs, links })
+}
+
+/// Adds an axiom.
+pub fn add(
+    catalogue: &[u8],
+    axiom: Axiom,
+    store: &mut [u8],
+    work: &mut [u8],
+    touched: &mut [u8],
+) -> Result<Changed, Refusal> {
+    answered(|a| exported::add(catalogue, axiom, store, work, touched, a)).map(changed)
+}
+
+/// Withdraws an axiom.
+pub fn withdraw(
+    catalogue: &[u8],
+    axiom: Axiom,
+    store: &mut [u8],
+    work: &mut [u8],
+    touched: &mut [u8],
+) -> Result<Changed, Refusal> {
+    answered(|a| exported::withdraw(catalogue, axiom, store, work, touched, a)).map(changed)
+}
+
+/// An edit's counts.
+fn changed([removed, returned, gained, touched]: [usize; ENTRIES]) -> Changed {
+    Changed {
+        removed,
+        returned,
+        gained,
+        touched,
+    }
 }
 
 /// Whether the store has C ⊑ D.

@@ -3,14 +3,13 @@
 
 #[path = "support/library.rs"]
 mod library;
-#[path = "../../reference/tests/support/random.rs"]
-mod random;
 
-use random::Random;
 use reference::calls;
-use reference::catalogue::{Catalogue, Concept};
+use reference::catalogue::{Axiom, Catalogue, Concept};
 use reference::examples;
+use reference::random::Random;
 use reference::store::Layout;
+use std::collections::BTreeSet;
 
 const FILL: u8 = 0x5a;
 
@@ -45,9 +44,32 @@ fn compare_classify(catalogue: &[u8], store: usize, work: usize) {
     assert!(ours == others, "buffers of classify of {catalogue:?}");
 }
 
+/// The edits: a name, the library's, the reference's.
+const EDITS: [(&str, library::Edit, library::Edit); 2] = [
+    ("add", library::add, calls::add),
+    ("withdraw", library::withdraw, calls::withdraw),
+];
+
+/// Edits by both, of a store as it is, with other buffers of these lengths.
+fn compare_edits(catalogue: &[u8], axiom: Axiom, store: &[u8], work: usize, list: usize) {
+    for (name, edit, other) in EDITS {
+        let [ours, others] = [edit, other].map(|call| {
+            let mut lent = (store.to_vec(), vec![FILL; work], vec![FILL; list]);
+            let result = call(catalogue, axiom, &mut lent.0, &mut lent.1, &mut lent.2);
+            (result, lent)
+        });
+        let place = || format!("{name} {axiom:?} with {catalogue:?} and {store:?}");
+        assert_eq!(ours.0, others.0, "{}", place());
+        assert!(ours.1 == others.1, "buffers of {}", place());
+    }
+}
+
 /// Every call on a catalogue, with a store that is classified from another.
 fn compare_all(catalogue: &[u8], store: &[u8]) {
     compare_classify(catalogue, store.len(), store.len());
+    for axiom in [(1, 0), (0, 1)] {
+        compare_edits(catalogue, axiom, store, store.len(), store.len());
+    }
     library::compare_reading(catalogue, store);
 }
 
@@ -96,6 +118,9 @@ fn every_bit_of_a_store_changed() {
         for bit in 0..8 * store.len() {
             store[bit / 8] ^= 1 << (bit % 8);
             library::compare_reading(&catalogue.bytes(), &store);
+            for axiom in [(0, 1), (2, 0), (1, 1), (1, 2)] {
+                compare_edits(&catalogue.bytes(), axiom, &store, 99, 99);
+            }
             store[bit / 8] ^= 1 << (bit % 8);
         }
     }
@@ -110,6 +135,11 @@ fn every_length_of_a_buffer() {
         for length in 0..=store.len() {
             compare_classify(&bytes, length, work);
             compare_classify(&bytes, used, length);
+            for &axiom in catalogue.axioms.iter().chain([&(1, 0)]) {
+                compare_edits(&bytes, axiom, &store[..length], work, used);
+                compare_edits(&bytes, axiom, &store, length, used);
+                compare_edits(&bytes, axiom, &store, work, length);
+            }
             library::compare_reading(&bytes, &store[..length]);
         }
         for length in 0..2 * catalogue.concepts.len() + 2 {
@@ -150,6 +180,49 @@ fn random_catalogue(random: &mut Random) -> Catalogue {
     catalogue
 }
 
+/// An axiom between two of a catalogue's concepts.
+fn any_axiom(random: &mut Random, catalogue: &Catalogue) -> Axiom {
+    let n = catalogue.concepts.len();
+    (random.below(n), random.below(n))
+}
+
+/// Axioms added and withdrawn in a row by the library, on a fresh store, which is
+/// then as if it were classified from those in force; and on one that lacks
+/// marks, or has others.
+#[test]
+fn edits_in_a_row() {
+    for seed in 0..150 {
+        let random = &mut Random::new(1000 + seed);
+        let mut catalogue = random_catalogue(random);
+        let bytes = catalogue.bytes();
+        let mut store = classified(&catalogue);
+        let mut axioms: BTreeSet<Axiom> = catalogue.axioms.iter().copied().collect();
+        let mut wrong: Vec<u8> = store.clone();
+        for byte in &mut wrong {
+            *byte &= !(random.below(256) & random.below(256)) as u8;
+        }
+        let (mut work, mut list) = (vec![FILL; store.len()], vec![FILL; 200]);
+        for _ in 0..8 {
+            let any = any_axiom(random, &catalogue);
+            let in_force = axioms.iter().nth(random.below(axioms.len().max(1)));
+            let axiom = match (random.below(2), in_force) {
+                (1, Some(&axiom)) => axiom,
+                _ => any,
+            };
+            compare_edits(&bytes, axiom, &store, store.len(), 200);
+            compare_edits(&bytes, axiom, &wrong, store.len(), 200);
+            let (_, edit, _) = EDITS[usize::from(axioms.contains(&axiom))];
+            edit(&bytes, axiom, &mut store, &mut work, &mut list).expect("accepted");
+            edit(&bytes, axiom, &mut wrong, &mut work, &mut list).ok();
+            if !axioms.remove(&axiom) {
+                axioms.insert(axiom);
+            }
+        }
+        catalogue.axioms = axioms.into_iter().collect();
+        assert!(store == classified(&catalogue), "as if classified");
+    }
+}
+
 #[test]
 fn random_catalogues_and_stores() {
     for seed in 0..400 {
@@ -161,6 +234,11 @@ fn random_catalogues_and_stores() {
             let bit = random.below(8 * store.len());
             store[bit / 8] ^= 1 << (bit % 8);
             library::compare_reading(&catalogue.bytes(), &store);
+            let own = catalogue.axioms.first().copied();
+            let any = any_axiom(random, &catalogue);
+            for axiom in own.into_iter().chain([any]) {
+                compare_edits(&catalogue.bytes(), axiom, &store, store.len(), 200);
+            }
         }
         let mut damaged = catalogue.bytes();
         let at = random.below(damaged.len());
@@ -186,5 +264,8 @@ fn great_numbers() {
         let refused = library::listing(&bytes, great, &store, &mut list);
         assert_eq!(refused, calls::listing(&bytes, great, &store, &mut list));
         assert_eq!(refused.expect_err("refused").number, 15);
+        for axiom in [(0, great), (great, 0)] {
+            compare_edits(&bytes, axiom, &store, store.len(), store.len());
+        }
     }
 }

@@ -1,19 +1,15 @@
 //! Runs every step of every vector file in the folder that the environment
 //! variable GIRVOTAL_VECTORS names through the exported functions. Without the
-//! variable it only says so. Calls that are not exported yet are the reference's,
-//! so that the steps after them meet the right store.
+//! variable it only says so.
 
 #[path = "support/library.rs"]
 mod library;
 #[path = "../../reference/tests/support/vectors.rs"]
 mod vectors;
 
-use reference::calls::{Counts, Row};
-use reference::catalogue::Refusal;
+use reference::calls::{Changed, Counts, Row};
+use reference::catalogue::{Axiom, Refusal};
 use vectors::{Calls, Vector, run_folder};
-
-/// The calls that the archive exports; add and withdraw are the reference's.
-const EXPORTED: [&str; 5] = ["classify", "lookup", "listing", "row", "write"];
 
 struct Library;
 
@@ -25,6 +21,28 @@ impl Calls for Library {
         work: &mut [u8],
     ) -> Result<Counts, Refusal> {
         library::classify(catalogue, store, work)
+    }
+
+    fn add(
+        &self,
+        catalogue: &[u8],
+        axiom: Axiom,
+        store: &mut [u8],
+        work: &mut [u8],
+        touched: &mut [u8],
+    ) -> Result<Changed, Refusal> {
+        library::add(catalogue, axiom, store, work, touched)
+    }
+
+    fn withdraw(
+        &self,
+        catalogue: &[u8],
+        axiom: Axiom,
+        store: &mut [u8],
+        work: &mut [u8],
+        touched: &mut [u8],
+    ) -> Result<Changed, Refusal> {
+        library::withdraw(catalogue, axiom, store, work, touched)
     }
 
     fn lookup(&self, catalogue: &[u8], c: usize, d: usize, store: &[u8]) -> Result<bool, Refusal> {
@@ -58,23 +76,8 @@ fn every_step_of_every_file() {
         })
     });
     for (call, count) in &tally {
-        let by = if EXPORTED.contains(&call.as_str()) {
-            "library"
-        } else {
-            "reference"
-        };
-        println!("{call}: {count} steps by the {by}");
+        println!("{call}: {count} steps");
     }
-    let exported = |call: &str| EXPORTED.contains(&call);
-    let steps = |by_library: bool| -> usize {
-        let chosen = tally
-            .iter()
-            .filter(|(call, _)| exported(call) == by_library);
-        chosen.map(|(_, count)| count).sum()
-    };
-    println!(
-        "{} steps by the library, {} by the reference",
-        steps(true),
-        steps(false)
-    );
+    let steps: usize = tally.values().sum();
+    println!("{steps} steps, all by the library");
 }

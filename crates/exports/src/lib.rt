@@ -4,9 +4,11 @@ ghost use Prim.Native.Nat.{_≤_, _<_, _^_};
 ghost use lib.ListN.{length};
 ghost use Rattle.exports.specs.Answers.{returned, answered, Given};
 ghost use Rattle.exports.specs.Classify.{classifyReply, ClassifyExported};
+ghost use Rattle.exports.specs.Edits.{editReply, AddExported, WithdrawExported};
 ghost use Rattle.exports.specs.Lookups.{lookupReply, LookupExported, listReply, ListExported, rowReply, RowExported};
 ghost use Rattle.exports.specs.Write.{writeReply, WriteExported};
 use classification::Classified;
+use edits::Changed;
 use lookups::Handed;
 use lookups::Listed;
 use lookups::Looked;
@@ -56,6 +58,21 @@ fn classify_reply(classified: Classified) -> Reply
     match classified {
         Classified::Done(pairs, links) => Reply::Accepted(pairs, links, 0, 0),
         Classified::Refused(number, at) => Reply::Refused(number, at),
+    }
+}
+
+// The reply of an edit: removed, returned, gained, and the count of concepts listed as touched.
+fn edit_reply(changed: Changed) -> Reply
+    ensures { λ r. ⌜ r ≡ editReply changed ⌝ }
+{
+    match changed {
+        Changed::Done(removed, returned, gained, touched) => Reply::Accepted(
+            removed,
+            returned,
+            gained,
+            touched,
+        ),
+        Changed::Refused(number, at) => Reply::Refused(number, at),
     }
 }
 
@@ -115,6 +132,46 @@ pub extern "C" fn girvotal_classify(
     }
     let classified = classification::classify(catalogue, store, work);
     give(answer, classify_reply(classified))
+}
+
+// Add an axiom.
+#[no_mangle]
+pub extern "C" fn girvotal_add(
+    catalogue: &[u8],
+    left: usize,
+    right: usize,
+    store: &mut [u8],
+    work: &mut [u8],
+    list: &mut [u8],
+    answer: &mut [u64],
+) -> usize
+    ensures { λ r. ⌜ AddExported (now (catalogue .entry)) left right (now (store .entry)) (now (work .entry)) (now (list .entry)) (now (answer .entry)) r (now (store .exit)) (now (work .exit)) (now (list .exit)) (now (answer .exit)) ⌝ }
+{
+    if answer.len() < ENTRIES {
+        return SHORT_ANSWER;
+    }
+    let changed = adding::add(catalogue, left, right, store, work, list);
+    give(answer, edit_reply(changed))
+}
+
+// Withdraw an axiom.
+#[no_mangle]
+pub extern "C" fn girvotal_withdraw(
+    catalogue: &[u8],
+    left: usize,
+    right: usize,
+    store: &mut [u8],
+    work: &mut [u8],
+    list: &mut [u8],
+    answer: &mut [u64],
+) -> usize
+    ensures { λ r. ⌜ WithdrawExported (now (catalogue .entry)) left right (now (store .entry)) (now (work .entry)) (now (list .entry)) (now (answer .entry)) r (now (store .exit)) (now (work .exit)) (now (list .exit)) (now (answer .exit)) ⌝ }
+{
+    if answer.len() < ENTRIES {
+        return SHORT_ANSWER;
+    }
+    let changed = withdrawing::withdraw(catalogue, left, right, store, work, list);
+    give(answer, edit_reply(changed))
 }
 
 // Look up the pair of two concepts.

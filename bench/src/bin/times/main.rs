@@ -1,13 +1,15 @@
 //! Measures the library against plain Rust, both in one run.
 //!
-//!     times                     classify of the files in ../data, then reading
+//!     times                     classify of the files in ../data, edits, reading
 //!     times classify [FILE..]   classify of these files, or of those in ../data
+//!     times edits               add and withdraw, beside classify
 //!     times reading             lookup, listing, row and write: nanoseconds
-//!     times instructions        both: instructions, counted by callgrind
+//!     times instructions        all of these: instructions, counted by callgrind
 
 mod classify;
 mod counting;
 mod data;
+mod edits;
 mod reading;
 
 fn main() {
@@ -17,18 +19,24 @@ fn main() {
         [] => {
             classify::time(&[]);
             println!();
+            edits::times();
+            println!();
             reading::times();
         }
         ["classify", ref files @ ..] => classify::time(files),
+        ["edits"] => edits::times(),
         ["reading"] => reading::times(),
         ["instructions"] => {
             classify::instructions();
+            println!();
+            edits::instructions();
             println!();
             reading::instructions();
         }
         // What callgrind runs.
         ["read", ref case @ ..] => reading::repeat(case),
+        ["edit", kind, name, which] => edits::once(kind, name, which),
         ["once", side, file] => classify::once(side, file),
-        _ => eprintln!("times [classify [FILE..] | reading | instructions]"),
+        _ => eprintln!("times [classify [FILE..] | edits | reading | instructions]"),
     }
 }
