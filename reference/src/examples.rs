@@ -16,6 +16,7 @@ pub const EXAMPLES: &[Example] = &[
     ("w10", w10),
     ("example1", example1),
     ("example4", example4),
+    ("self-axiom", self_axiom),
     ("tops", tops),
     ("wide", wide),
     ("shared-parts", || shared_parts(64)),
@@ -111,6 +112,11 @@ pub fn example1() -> Catalogue {
 pub fn example4() -> Catalogue {
     let concepts = [vec![Atomic; 3], vec![Existential(0, 1), Existential(0, 2)]].concat();
     plain(concepts, 1, vec![(0, 3), (1, 2), (2, 1), (4, 4)])
+}
+
+/// Two concepts, each within itself, and one within the other.
+pub fn self_axiom() -> Catalogue {
+    plain(vec![Atomic; 2], 0, vec![(0, 0), (0, 1), (1, 1)])
 }
 
 /// Two tops, one of them inside an existential.

@@ -2,10 +2,12 @@
 //! `crates/NAME/stdin` (nothing where there is no such file), and must write
 //! what `crates/NAME/stdout` holds.
 
+use crate::edits;
 use crate::fixed;
 use crate::inputs;
 use crate::listing;
 use crate::programs;
+use crate::running;
 use std::fs;
 use std::io;
 use std::path::Path;
@@ -29,6 +31,8 @@ pub const PROGRAMS: &[(&str, Output)] = &[
     ("gate_classification", programs::gate_classification),
     ("gate_lookups", programs::gate_lookups),
     ("gate_calls", programs::gate_calls),
+    ("gate_edits", edits::text),
+    ("gate_running", running::text),
 ];
 
 /// Writes the input of every program crate below `root` whose input is made

@@ -1,8 +1,8 @@
 //! The exported calls: each returns a number, and writes four entries of an
 //! answer where it is accepted.
 
-use crate::calls;
-use crate::catalogue::Refusal;
+use crate::calls::{self, Changed};
+use crate::catalogue::{Axiom, Refusal};
 
 /// How many entries an answer has at least.
 const ENTRIES: usize = 4;
@@ -25,10 +25,49 @@ fn exported(answer: &mut [u64], call: impl FnOnce() -> Result<[usize; ENTRIES], 
     }
 }
 
+/// An edit's counts in their order.
+pub(crate) fn entries(changed: Changed) -> [usize; ENTRIES] {
+    let Changed {
+        removed,
+        returned,
+        gained,
+        touched,
+    } = changed;
+    [removed, returned, gained, touched]
+}
+
 pub fn classify(catalogue: &[u8], store: &mut [u8], work: &mut [u8], answer: &mut [u64]) -> usize {
     exported(answer, || {
         let counts = calls::classify(catalogue, store, work)?;
         Ok([counts.pairs, counts.links, 0, 0])
+    })
+}
+
+pub fn add(
+    catalogue: &[u8],
+    axiom: Axiom,
+    store: &mut [u8],
+    work: &mut [u8],
+    touched: &mut [u8],
+    answer: &mut [u64],
+) -> usize {
+    exported(answer, || {
+        let changed = calls::add(catalogue, axiom, store, work, touched)?;
+        Ok(entries(changed))
+    })
+}
+
+pub fn withdraw(
+    catalogue: &[u8],
+    axiom: Axiom,
+    store: &mut [u8],
+    work: &mut [u8],
+    touched: &mut [u8],
+    answer: &mut [u64],
+) -> usize {
+    exported(answer, || {
+        let changed = calls::withdraw(catalogue, axiom, store, work, touched)?;
+        Ok(entries(changed))
     })
 }
 

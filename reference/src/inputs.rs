@@ -3,7 +3,9 @@
 
 use crate::calls;
 use crate::catalogue::{Catalogue, Concept};
+use crate::edit_cases;
 use crate::examples;
+use crate::running_cases;
 use std::fs;
 use std::io;
 use std::path::Path;
@@ -17,10 +19,14 @@ pub const PROGRAMS: &[(&str, Input)] = &[
     ("gate_listing_empty", |_| Ok(vec![])),
     ("gate_listing_long", |_| Ok(vec![255; 70_000])),
     ("gate_listing_many", |data| catalogue(data, "bookings-2")),
-    ("gate_listing_refused", |data| catalogue(data, "w1-unsorted")),
+    ("gate_listing_refused", |data| {
+        catalogue(data, "w1-unsorted")
+    }),
     ("gate_listing_wide", |data| catalogue(data, "wide")),
     ("gate_classification", closure_cases),
     ("gate_calls", call_cases),
+    ("gate_edits", edit_cases::input),
+    ("gate_running", running_cases::input),
 ];
 
 /// All of a buffer.
@@ -208,7 +214,7 @@ fn classified(name: &str) -> Vec<u8> {
 
 /// The bytes of a catalogue: a faulty variant of `w1`, `w10` without its
 /// axioms, a built-in one, or `NAME.bin` in the folder.
-fn catalogue(data: &Path, name: &str) -> io::Result<Vec<u8>> {
+pub(crate) fn catalogue(data: &Path, name: &str) -> io::Result<Vec<u8>> {
     let mut w1 = examples::w1();
     match (name, examples::named(name)) {
         ("w1-cut", _) => Ok(w1.bytes()[..19].to_vec()),

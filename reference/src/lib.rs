@@ -13,10 +13,11 @@
 //! - `calls`: the public calls, each with its checks in order
 //! - `exports`: those that C and Rust call
 //! - `listing`: the text of the listing program
-//! - `programs`, `fixed`: the text of the check programs
+//! - `programs`, `fixed`, `edits`, `running`: the text of the check programs
 //! - `checksum`: the checksum that they print
 //! - `examples`: built-in catalogues
-//! - `inputs`: inputs of programs
+//! - `inputs`, `edit_cases`, `running_cases`: inputs of programs
+//! - `random`: random numbers and small catalogues
 //! - `expected`: expected outputs of programs
 
 pub mod application;
@@ -24,6 +25,8 @@ pub mod calls;
 pub mod catalogue;
 pub mod change;
 pub mod checksum;
+pub mod edit_cases;
+pub mod edits;
 pub mod examples;
 pub mod expected;
 pub mod exports;
@@ -32,7 +35,10 @@ pub mod fixed;
 pub mod inputs;
 pub mod listing;
 pub mod programs;
+pub mod random;
 pub mod rounds;
 pub mod rules;
+pub mod running;
+pub mod running_cases;
 pub mod saturation;
 pub mod store;

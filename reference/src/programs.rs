@@ -12,28 +12,28 @@ const STORE_LENGTH: usize = 589_824;
 const WORK_LENGTH: usize = 557_056;
 
 /// What is left of an input.
-struct Input<'a>(&'a [u8]);
+pub(crate) struct Input<'a>(pub(crate) &'a [u8]);
 
 impl<'a> Input<'a> {
     /// The next bytes.
-    fn bytes(&mut self, count: usize) -> &'a [u8] {
+    pub(crate) fn bytes(&mut self, count: usize) -> &'a [u8] {
         let (first, rest) = self.0.split_at(count);
         self.0 = rest;
         first
     }
 
     /// The next number, in so many bytes, low byte first.
-    fn number(&mut self, bytes: usize) -> usize {
+    pub(crate) fn number(&mut self, bytes: usize) -> usize {
         let digits = self.bytes(bytes).iter().rev();
         digits.fold(0, |number, &byte| 256 * number + usize::from(byte))
     }
 }
 
-fn refused(refusal: Refusal) -> String {
+pub(crate) fn refused(refusal: Refusal) -> String {
     format!("refused {} {}", refusal.number, refusal.record)
 }
 
-fn digits(bytes: &[u8]) -> String {
+pub(crate) fn digits(bytes: &[u8]) -> String {
     bytes.iter().map(|byte| format!("{byte:02x}")).collect()
 }
 
@@ -183,7 +183,7 @@ fn row_and_answer(catalogue: &[u8], c: usize, store: &[u8]) -> String {
 
 /// What an exported call returns with so many entries lent of an answer, and
 /// the whole answer.
-fn replied(entries: usize, call: impl FnOnce(&mut [u64]) -> usize) -> String {
+pub(crate) fn replied(entries: usize, call: impl FnOnce(&mut [u64]) -> usize) -> String {
     let mut answer = [99; 6];
     let returned = call(&mut answer[..entries.min(6)]);
     format!(

@@ -1,13 +1,10 @@
 //! The worklists against the papers' definitions by rounds, on small random
 //! catalogues; and the least set against a model.
 
-#[path = "support/random.rs"]
-mod random;
-
-use random::Random;
 use reference::catalogue::{Axiom, Catalogue, Concept};
 use reference::change::{Change, Edit};
 use reference::expressions::ExpressionSet;
+use reference::random::Random;
 use reference::rounds::{self, Instance, Set};
 use reference::rules::{Expression, Ontology, Rules};
 use reference::saturation::least_set;

@@ -1,5 +1,9 @@
 // What programs share that run the cases of their input: the input's numbers, the lesser of two, buffers filled before a call,
 // and answers in words, numbers and checksums.
+pub mod sequences; // sequences.rt: bytes and entries in a row
+
+pub use sequences::say_digits;
+pub use sequences::say_reply;
 ghost use mathlib.Core.Path.{_≡_};
 ghost use Prim.Native.Nat.{_+_, _≤_, _<_, min};
 ghost use lib.ListN.{length, replicate};
@@ -13,6 +17,14 @@ pub fn short_at(text: &[u8], at: usize) -> usize
     ensures { λ r. ⌜ (r ≡ words.word (now (text .entry)) at) × (r < 65536) ⌝ }
 {
     catalogue::word(text, at)
+}
+
+// The number at a byte of the input, in four bytes.
+pub fn long_at(text: &[u8], at: usize) -> usize
+    requires { ⌜ at + 3 < length (now text) ⌝ }
+    ensures { λ r. ⌜ r < 4294967296 ⌝ }
+{
+    short_at(text, at) + 65536 * short_at(text, at + 2)
 }
 
 // The lesser of two numbers.

@@ -10,6 +10,7 @@ use cases::least;
 use cases::say;
 use cases::say_checksum;
 use cases::say_refused;
+use cases::say_reply;
 use cases::short_at;
 use libc::STDIN_FILENO;
 use libc::STDOUT_FILENO;
@@ -42,17 +43,6 @@ fn say_row(part: &[u8], answer: Handed) {
 fn run_row(b: &[u8], c: usize, store: &[u8]) {
     let handed = lookups::row_and_answer(b, c, store);
     say_row(handed.part, handed.answer);
-}
-
-// Writes what an exported call returned, and the entries of its answer.
-fn say_reply(returned: usize, answer: &[u64]) {
-    say(b"returned ", returned);
-    let mut i = 0;
-    while i < answer.len() {
-        io::write_all(STDOUT_FILENO, b" ");
-        io::print_decimal(STDOUT_FILENO, answer[i]);
-        i += 1;
-    }
 }
 
 // Runs an exported call, and answers what it returned.

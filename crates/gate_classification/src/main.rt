@@ -8,6 +8,7 @@ ghost use lib.ListN.{length};
 ghost use Rattle.layout.specs.Parts.{Sized};
 use cases::fill;
 use cases::least;
+use cases::long_at;
 use cases::say;
 use cases::say_checksum;
 use cases::say_refused;
@@ -35,13 +36,6 @@ fn run(b: &[u8], store: &mut [u8], work: &mut [u8]) {
         Classified::Refused(number, record) => say_refused(number, record),
         Classified::Done(pairs, links) => say_classified(b, pairs, links, store),
     }
-}
-
-// The number at a byte of the input, in four bytes.
-fn long_at(text: &[u8], at: usize) -> usize
-    requires { ⌜ at + 3 < length (now text) ⌝ }
-{
-    short_at(text, at) + 65536 * short_at(text, at + 2)
 }
 
 // Runs the case at a byte of the input, if the input has all of it, and says where the next one starts.

@@ -5,6 +5,7 @@ ghost use Prim.Native.Nat.{_+_, _≤_, _<_};
 ghost use lib.ListN.{length};
 use cases::fill;
 use cases::say;
+use cases::say_digits;
 use cases::say_refused;
 use cases::short_at;
 use libc::STDIN_FILENO;
@@ -12,15 +13,6 @@ use libc::STDOUT_FILENO;
 use lookups::Handed;
 use lookups::Listed;
 use lookups::Looked;
-
-// Writes bytes in hexadecimal digits.
-fn say_digits(bytes: &[u8]) {
-    let mut i = 0;
-    while i < bytes.len() {
-        io::print_hex(STDOUT_FILENO, bytes[i] as u64, 2);
-        i += 1;
-    }
-}
 
 // Writes a space and bytes, and ends the line.
 fn say_bytes(bytes: &[u8]) {

@@ -1,10 +1,10 @@
--- `say_digits`: it goes to the last byte.
+-- `cases::say_digits`: it goes to the last byte.
 use Prim.Native.Nat.{_-_, _≤_}
 use native.Mathlib.Omega.{arith}
 use lib.ListN.{length}
 use borrow.Author.Needs.{needs}
-use Rattle.gate_lookups.proofs.say_digits.Statement.{statement}
-use Rattle.gate_lookups.proofs.say_digits.Tie as tie
+use Rattle.cases.proofs.sequences.say_digits.Statement.{statement}
+use Rattle.cases.proofs.sequences.say_digits.Tie as tie
 
 abbrev Inv-loop : tie.InvT-loop
 Inv-loop bytes i₀ i = i ≤ length bytes

@@ -1,6 +1,6 @@
 //! Small random catalogues, the same ones in every run.
 
-use reference::catalogue::{Catalogue, Concept};
+use crate::catalogue::{Catalogue, Concept};
 use std::collections::BTreeSet;
 
 /// A xorshift generator.

@@ -1,9 +1,9 @@
--- `say_reply` meets its contract: it goes to the last entry.
+-- `cases::say_reply` meets its contract: it goes to the last entry.
 use Prim.Native.Nat.{_-_, _≤_}
 use lib.ListN.{length}
 use borrow.Author.Needs.{needs}
-use Rattle.gate_calls.proofs.say_reply.Statement.{statement}
-use Rattle.gate_calls.proofs.say_reply.Tie as tie
+use Rattle.cases.proofs.sequences.say_reply.Statement.{statement}
+use Rattle.cases.proofs.sequences.say_reply.Tie as tie
 
 abbrev Inv-loop : tie.InvT-loop
 Inv-loop returned answer i₀ t5 i = i ≤ length answer
