@@ -1,6 +1,7 @@
 pub mod ByteBits
 pub mod Bits
 pub mod Counting
+pub mod Words
 pub mod Lowest
 pub mod Front
 pub mod Places

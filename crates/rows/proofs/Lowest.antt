@@ -12,11 +12,13 @@ use lib.Count.{trailingZeros}
 use lib.Pow.{shr-le}
 use Rattle.rows.specs.Bits.{bit, byteBit, anyBit}
 use Rattle.rows.specs.Next.{lowest, nextBit}
+use Rattle.rows.specs.Words.{numberAt}
 use Rattle.rows.specs.declared.Found.{Found}
 use Rattle.rows.specs.declared.Found.the-variants.{At, Nothing}
 use Rattle.rows.proofs.ByteBits.{byteBit-zero, byteBit-shift, byteBit-past, trailing-low, trailing-at, trailing-lt}
 use Rattle.rows.proofs.Bits.{bit-past, bit-at}
 use Rattle.rows.proofs.Counting.{any-set, any-clear}
+use Rattle.rows.proofs.Words.{BytesFrom, number-lt, number-bit}
 
 -- ---- one step of the search
 
@@ -123,7 +125,7 @@ none-next row i e a p =
       | no g ↦ bit-past row a (omega arith)
     ]
 
--- ---- past what is clear, and the lowest bit of a byte
+-- ---- past what is clear, and the lowest bit of a byte or of several
 
 -- A search passes over clear bits.
 pub next-skip : (row : List ℕ) (i j : ℕ) → i ≤ j → ((a : ℕ) → i ≤ a → a < j → bit row a ≡ false) → nextBit row i ≡ nextBit row j
@@ -144,40 +146,57 @@ pub zero-byte : (row : List ℕ) (q : ℕ) → getD row q 0 ≡ 0 → (a : ℕ) 
 unfolding bit
 zero-byte row q z a e = ap (λ (x : ℕ). byteBit x (a % 8)) (ap (λ (k : ℕ). getD row k 0) e ∙ z) ∙ byteBit-zero (a % 8)
 
--- A search that starts in byte q at place s finds the lowest set bit of what the byte holds from there on.
+-- A number whose w digits are the bits of a row from place p on.
+module _ (row : List ℕ) (p w n : ℕ) (same : (j : ℕ) → j < w → byteBit n j ≡ bit row (p + j)) where
+  -- What is left of it from digit s on is 0: none of these bits is set.
+  digits-clear : (s : ℕ) → n / 2 ^ s ≡ 0 → (a : ℕ) → p + s ≤ a → a < p + w → bit row a ≡ false
+  digits-clear s e a l r =
+      let j = a - (p + s) in
+      let there : a ≡ p + (s + j) = omega arith in
+      ap (bit row) there
+      ∙ sym (same (s + j) (omega arith))
+      ∙ sym (byteBit-shift n s j)
+      ∙ ap (λ (y : ℕ). byteBit y j) e
+      ∙ byteBit-zero j
+
+  -- A search that starts at digit s finds the lowest set digit of what is left.
+  next-in-digits : n < 2 ^ w → p + w ≤ 8 * length row → (s x : ℕ) → x ≡ n / 2 ^ s → (x ≡ 0 → ⊥) → nextBit row (p + s) ≡ At (p + s + trailingZeros w x)
+  next-in-digits small h s x e nz =
+      let t = trailingZeros w x in
+      let t-lt : t < w = trailing-lt w x (omega arith) (subst (λ (y : ℕ). y < 2 ^ w) (sym e) (lt-of-le-of-lt (shr-le n s) small)) in
+      let shifted : (j : ℕ) → byteBit x j ≡ byteBit n (s + j) =
+      λ j. ap (λ (y : ℕ). byteBit y j) e ∙ byteBit-shift n s j
+      in
+      let lit : byteBit n (s + t) ≡ true = sym (shifted t) ∙ trailing-at w x t-lt in
+      let within : s + t < w =
+      elim (decLt (s + t) w) [
+        | yes y ↦ y
+        | no g ↦ absurd (false≢true (sym (byteBit-past w n (s + t) small (omega arith)) ∙ lit))
+      ]
+      in
+      let place : p + s + t ≡ p + (s + t) = omega arith in
+      next-at row (p + s) (p + s + t) (omega arith) (omega arith)
+      (ap (bit row) place ∙ sym (same (s + t) within) ∙ lit)
+      (λ a l r.
+      let j = a - (p + s) in
+      let there : a ≡ p + (s + j) = omega arith in
+      ap (bit row) there ∙ sym (same (s + j) (omega arith)) ∙ sym (shifted j) ∙ trailing-low w x j (omega arith))
+
+-- Both for byte q.
 pub next-in-byte : (row : List ℕ) (q s x : ℕ) → q < length row → s < 8 → x ≡ getD row q 0 / 2 ^ s → getD row q 0 < 256 → (x ≡ 0 → ⊥) → nextBit row (8 * q + s) ≡ At (8 * q + s + trailingZeros 8 x)
 next-in-byte row q s x h l e byte nz =
-    let small : x < 2 ^ 8 = subst (λ (n : ℕ). n < 2 ^ 8) (sym e) (lt-of-le-of-lt (shr-le (getD row q 0) s) byte) in
-    let t = trailingZeros 8 x in
-    let t-lt : t < 8 = trailing-lt 8 x (omega arith) small in
-    let whole : (k : ℕ) → byteBit x k ≡ byteBit (getD row q 0) (s + k) =
-    λ k. ap (λ (n : ℕ). byteBit n k) e ∙ byteBit-shift (getD row q 0) s k
-    in
-    let lit : byteBit (getD row q 0) (s + t) ≡ true = sym (whole t) ∙ trailing-at 8 x t-lt in
-    let within : s + t < 8 =
-    elim (decLt (s + t) 8) [
-      | yes y ↦ y
-      | no g ↦ absurd (false≢true (sym (byteBit-past 8 (getD row q 0) (s + t) byte (omega arith)) ∙ lit))
-    ]
-    in
-    let place : 8 * q + s + t ≡ 8 * q + (s + t) = omega arith in
-    next-at row (8 * q + s) (8 * q + s + t) (omega arith) (omega arith)
-    (ap (bit row) place ∙ bit-at row q (s + t) within ∙ lit)
-    (λ a p r.
-    let k = a - (8 * q + s) in
-    let there : a ≡ 8 * q + (s + k) = omega arith in
-    ap (bit row) there ∙ bit-at row q (s + k) (omega arith) ∙ sym (whole k) ∙ trailing-low 8 x k (omega arith))
+    next-in-digits row (8 * q) 8 (getD row q 0) (λ j g. sym (bit-at row q j g)) byte (omega arith) s x e nz
 
--- What is left of byte q from place s on is 0: none of its bits from there on is set.
 pub rest-clear : (row : List ℕ) (q s : ℕ) → s < 8 → getD row q 0 / 2 ^ s ≡ 0 → (a : ℕ) → 8 * q + s ≤ a → a < 8 * q + 8 → bit row a ≡ false
-rest-clear row q s l e a p r =
-    let k = a - (8 * q + s) in
-    let there : a ≡ 8 * q + (s + k) = omega arith in
-    ap (bit row) there
-    ∙ bit-at row q (s + k) (omega arith)
-    ∙ sym (byteBit-shift (getD row q 0) s k)
-    ∙ ap (λ (n : ℕ). byteBit n k) e
-    ∙ byteBit-zero k
+rest-clear row q s l e a p r = digits-clear row (8 * q) 8 (getD row q 0) (λ j g. sym (bit-at row q j g)) s e a p r
+
+-- And for the number of the k bytes from q on.
+pub next-in-number : (row : List ℕ) (q k s x : ℕ) → BytesFrom row q k → q + k ≤ length row → x ≡ numberAt row q k / 2 ^ s → (x ≡ 0 → ⊥) → nextBit row (8 * q + s) ≡ At (8 * q + s + trailingZeros (8 * k) x)
+next-in-number row q k s x bs h e nz =
+    next-in-digits row (8 * q) (8 * k) (numberAt row q k) (λ j g. number-bit row q k j bs g) (number-lt row q k bs) (omega arith) s x e nz
+
+pub number-clear : (row : List ℕ) (q k s : ℕ) → BytesFrom row q k → numberAt row q k / 2 ^ s ≡ 0 → (a : ℕ) → 8 * q + s ≤ a → a < 8 * q + 8 * k → bit row a ≡ false
+number-clear row q k s bs e a p r = digits-clear row (8 * q) (8 * k) (numberAt row q k) (λ j g. number-bit row q k j bs g) s e a p r
 
 -- A row with a byte that is not 0 has a set bit, and one whose bytes are all 0 has none.
 pub any-nonzero : (row : List ℕ) (q : ℕ) → q < length row → getD row q 0 < 256 → (getD row q 0 ≡ 0 → ⊥) → anyBit row ≡ true

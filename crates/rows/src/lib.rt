@@ -5,8 +5,9 @@ pub use walking::gather;
 ghost use mathlib.Core.Path.{_≡_};
 ghost use Prim.Native.Nat.{_+_, _*_, _≤_, _<_};
 ghost use lib.ListN.{length};
-ghost use Rattle.rows.specs.Bits.{bit, setBit, setIf, clearBit, orRow, countBits, anyBit};
+ghost use Rattle.rows.specs.Bits.{bit, setBit, setIf, clearBit, orRow, countBelow, countBits, anyBit};
 ghost use Rattle.rows.specs.Next.{nextBit, NextBelow};
+ghost use Rattle.rows.specs.Words.{numberAt};
 
 // The lowest set bit from a given one on, or none.
 pub enum Found {
@@ -104,11 +105,11 @@ pub fn count(row: &[u8]) -> usize
 {
     let mut total: usize = 0;
     let mut k = 0;
-    while k < row.len() {
-        total += u8::count_ones(row[k]) as usize;
-        k += 1;
+    while 8 <= row.len() - k {
+        total += u64::count_ones(word(row, k)) as usize;
+        k += 8;
     }
-    total
+    total + count_by_bytes(row, k)
 }
 
 // The lowest set bit from a given one on, itself included; the given one may lie past the end.
@@ -116,15 +117,15 @@ pub fn next(row: &[u8], from: usize) -> Found
     requires { ⌜ length (now row) ≤ 1048576 ⌝ }
     ensures { λ r. ⌜ r ≡ nextBit (now (row .entry)) from ⌝ }
 {
-    let at = from / 8;
-    if row.len() <= at {
-        return Found::Nothing;
+    let at = from / 64 * 8;
+    if row.len() < at + 8 {
+        return next_by_bytes(row, from);
     }
-    let rest = row[at] >> (from % 8);
+    let rest = word(row, at) >> (from % 64);
     if rest != 0 {
-        return Found::At(from + u8::trailing_zeros(rest) as usize);
+        return Found::At(from + u64::trailing_zeros(rest) as usize);
     }
-    next_byte(row, at + 1)
+    next_by_words(row, at + 8)
 }
 
 // The lowest set bit from a given one on that is below n, or n where there is none.
@@ -138,18 +139,62 @@ pub fn next_below(row: &[u8], n: usize, from: usize) -> usize
     }
 }
 
-// The lowest set bit from a given byte on.
-fn next_byte(row: &[u8], from: usize) -> Found
-    requires { ⌜ length (now row) ≤ 1048576 ⌝ }
+// The eight bytes from a place on as one number, low byte first.
+fn word(row: &[u8], at: usize) -> u64
+    requires { ⌜ at + 8 ≤ length (now row) ⌝ }
+    ensures { λ r. ⌜ r ≡ numberAt (now (row .entry)) at 8 ⌝ }
+{
+    let mut number: u64 = 0;
+    let mut k = 0;
+    while k < 8 {
+        number |= (row[at + k] as u64) << (8 * k);
+        k += 1;
+    }
+    number
+}
+
+// How many bits are set from a given byte on, byte by byte.
+fn count_by_bytes(row: &[u8], from: usize) -> usize
+    requires { ⌜ (length (now row) ≤ 1048576) × (from ≤ length (now row)) ⌝ }
+    ensures { λ r. ⌜ countBelow (bit (now (row .entry))) (8 * from) + r ≡ countBits (now (row .entry)) ⌝ }
+{
+    let mut total: usize = 0;
+    let mut k = from;
+    while k < row.len() {
+        total += u8::count_ones(row[k]) as usize;
+        k += 1;
+    }
+    total
+}
+
+// The lowest set bit from a given byte on: by whole words, and then what is left byte by byte.
+fn next_by_words(row: &[u8], from: usize) -> Found
+    requires { ⌜ (length (now row) ≤ 1048576) × (from ≤ length (now row)) ⌝ }
     ensures { λ r. ⌜ r ≡ nextBit (now (row .entry)) (8 * from) ⌝ }
 {
     let mut at = from;
-    while at < row.len() {
-        let byte = row[at];
-        if byte != 0 {
-            return Found::At(8 * at + u8::trailing_zeros(byte) as usize);
+    while 8 <= row.len() - at {
+        let number = word(row, at);
+        if number != 0 {
+            return Found::At(8 * at + u64::trailing_zeros(number) as usize);
         }
-        at += 1;
+        at += 8;
+    }
+    next_by_bytes(row, 8 * at)
+}
+
+// The lowest set bit from a given one on, byte by byte.
+fn next_by_bytes(row: &[u8], from: usize) -> Found
+    requires { ⌜ length (now row) ≤ 1048576 ⌝ }
+    ensures { λ r. ⌜ r ≡ nextBit (now (row .entry)) from ⌝ }
+{
+    let mut i = from;
+    while i / 8 < row.len() {
+        let rest = row[i / 8] >> (i % 8);
+        if rest != 0 {
+            return Found::At(i + u8::trailing_zeros(rest) as usize);
+        }
+        i = i / 8 * 8 + 8;
     }
     Found::Nothing
 }

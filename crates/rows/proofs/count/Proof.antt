@@ -1,12 +1,14 @@
--- `rows::count` meets its contract: the total is the count of the bytes passed.
-use mathlib.Core.Path.{refl, sym, ap, _∙_, _≡_}
-use lib.Count.{ones, ones-le}
-use Rattle.rows.proofs.Counting.{count-byte, count-le}
+-- `rows::count` meets its contract: the total is the count of the words passed, and what is left is counted byte by byte.
+use mathlib.Core.Path.{_≡_, refl, sym, ap, ap₂, _∙_, subst}
 use borrow.Author.Needs.{needs}
-use Prim.Native.Nat.{ℕ, _+_, _-_, _*_, _≤_}
+use Prim.Native.Nat.{ℕ, _+_, _-_, _*_, _^_, _≤_, _<_}
 use native.Mathlib.Omega.{arith}
-use lib.ListN.{length, getD}
+use lib.ListN.{length}
+use lib.Count.{ones, ones-le}
 use Rattle.rows.specs.Bits.{bit, countBelow, countBits}
+use Rattle.rows.specs.Words.{numberAt}
+use Rattle.rows.proofs.Counting.{count-le}
+use Rattle.rows.proofs.Words.{number-lt, count-number}
 use Rattle.rows.proofs.count.Statement.{statement}
 use Rattle.rows.proofs.count.Tie as tie
 
@@ -20,20 +22,20 @@ loop-holds : tie.Need-loop-holds Inv-loop μ-loop
 unfolding countBelow
 loop-holds c = (search needs, refl)
 
-shared-slice-read-total : tie.Need-shared-slice-read-total Inv-loop μ-loop
-shared-slice-read-total c = search needs
+sub-loop : tie.Need-sub-loop Inv-loop μ-loop
+sub-loop c = search needs
+
+word-requires : tie.Need-word-requires Inv-loop μ-loop
+word-requires c κs = search needs
 
 cast-total : tie.Need-cast-total Inv-loop μ-loop
-cast-total c =
-    let byte = getD (c .before .before .before .args .row .now) (c .before .before .loop .k) 0 in
-    omega (arith, ones-le 8 byte (c .shared-slice-known .given (c .before .before .loop .k) .fits))
+cast-total c = omega (arith, ones-le 64 (c .word .result) (omega arith))
 
 add-total : tie.Need-add-total Inv-loop μ-loop
 add-total c =
-    let row = c .before .before .before .args .row .now in
-    let k = c .before .before .loop .k in
-    let inv = c .before .before .loop .inv in
-    omega (arith, ones-le 8 (getD row k 0) (c .shared-slice-known .given k .fits), count-le (bit row) (8 * k), inv .1, c .before .before .before .pre)
+    let row = c .before .before .before .before .args .row .now in
+    let l = c .before .before .loop in
+    omega (arith, ones-le 64 (c .word .result) (omega arith), count-le (bit row) (8 * l .k), l .inv .1, c .before .before .before .before .pre)
 
 add-k : tie.Need-add-k Inv-loop μ-loop
 add-k c = search needs
@@ -43,19 +45,25 @@ loop-less c = search needs
 
 loop-again : tie.Need-loop-again Inv-loop μ-loop
 loop-again c =
-    let row = c .before .before .before .args .row .now in
-    let k = c .before .before .loop .k in (
+    let row = c .before .before .before .before .args .row .now in
+    let l = c .before .before .loop in (
       search needs,
-      ap (λ (n : ℕ). n + ones (getD row k 0)) (c .before .before .loop .inv .1)
-          ∙ sym (count-byte row k (c .shared-slice-known .given k .fits)),
+      ap₂ (λ (n x : ℕ). n + ones x) (l .inv .1) (c .word .ensures)
+          ∙ sym (count-number row (l .k) 8 (λ j h. c .before .before .before .shared-slice-known .given (l .k + j) .fits)),
     )
 
-returns : tie.Need-returns Inv-loop μ-loop
+count-by-bytes-requires : tie.Need-count-by-bytes-requires Inv-loop μ-loop
+count-by-bytes-requires c κs = search needs
+
+add-result : tie.Need-add-result Inv-loop μ-loop
 unfolding countBits
-returns c =
-    let row = c .before .before .args .row .now in
-    c .before .loop .inv .1
-    ∙ ap (λ (i : ℕ). countBelow (bit row) (8 * i)) (let e : c .before .loop .k ≡ length row = omega arith in e)
+add-result c =
+    let row = c .before .before .before .before .args .row .now in
+    let l = c .before .before .loop in
+    omega (arith, count-le (bit row) (8 * length row), l .inv .1, c .count-by-bytes .ensures, c .before .before .before .before .pre)
+
+returns : tie.Need-returns Inv-loop μ-loop
+returns c = ap (λ (n : ℕ). n + c .count-by-bytes .result) (c .before .before .loop .inv .1) ∙ c .count-by-bytes .ensures
 
 pub count-spec : {M : Type 1} → statement M
 count-spec =
@@ -64,10 +72,13 @@ count-spec =
     Inv-loop
     μ-loop
     loop-holds
-    shared-slice-read-total
+    sub-loop
+    word-requires
     cast-total
     add-total
     add-k
     loop-less
     loop-again
+    count-by-bytes-requires
+    add-result
     returns)

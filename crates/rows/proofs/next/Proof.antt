@@ -1,80 +1,85 @@
--- `rows::next` meets its contract: the rest of the first byte is looked at, and then the bytes after it.
-use mathlib.Core.Path.{_≡_, refl, sym, ap, _∙_}
+-- `rows::next` meets its contract: the rest of the word that holds the given bit is looked at, and then the words after it.
+use mathlib.Core.Path.{_≡_, sym, ap, _∙_}
+use borrow.Author.Needs.{needs}
 use Prim.Native.Nat.{ℕ, _+_, _*_, _/_, _%_, _^_}
 use native.Mathlib.Omega.{arith}
-use lib.ListN.{getD}
 use lib.Count.{trailingZeros, trailing-le}
 use Rattle.rows.specs.Next.{nextBit}
 use Rattle.rows.specs.declared.Found.the-variants.{At}
-use Rattle.rows.proofs.Bits.{bit-past}
-use Rattle.rows.proofs.Lowest.{next-in-byte, next-skip, next-none, rest-clear}
-use borrow.Author.Needs.{needs}
+use Rattle.rows.proofs.Lowest.{next-in-number, next-skip, number-clear}
 use Rattle.rows.proofs.next.Statement.{statement}
 use Rattle.rows.proofs.next.Tie as tie
 
+mul-at : tie.Need-mul-at
+mul-at c = search needs
+
+add-if1 : tie.Need-add-if1
+add-if1 c = search needs
+
+next-by-bytes-requires : tie.Need-next-by-bytes-requires
+next-by-bytes-requires c κs = search needs
+
 returns : tie.Need-returns
-returns c =
-    let row = c .before .before .args .row .now in
-    sym (next-none row (c .before .before .args .from) (λ a p. bit-past row a (omega arith)))
+returns c = search needs
 
-shared-slice-read-rest : tie.Need-shared-slice-read-rest
-shared-slice-read-rest c = search needs
-
-cast-rest : tie.Need-cast-rest
-cast-rest c = search needs
+word-requires : tie.Need-word-requires
+word-requires c κs = search needs
 
 shr-rest : tie.Need-shr-rest
 shr-rest c = search needs
 
 cast-t11 : tie.Need-cast-t11
 cast-t11 c =
-    let row = c .before .before .before .before .args .row .now in
     let from = c .before .before .before .before .args .from in
-    omega (arith, trailing-le 8 (getD row (from / 8) 0 / 2 ^ (from % 8)))
+    omega (arith, trailing-le 64 (c .before .word .result / 2 ^ (from % 64)))
 
 add-t12 : tie.Need-add-t12
 add-t12 c =
-    let row = c .before .before .before .before .args .row .now in
     let from = c .before .before .before .before .args .from in
-    omega (arith, trailing-le 8 (getD row (from / 8) 0 / 2 ^ (from % 8)), c .before .before .before .before .pre)
+    omega (arith, trailing-le 64 (c .before .word .result / 2 ^ (from % 64)), c .before .before .before .before .pre)
 
 returns-2 : tie.Need-returns-2
 returns-2 c =
     let row = c .before .before .before .before .args .row .now in
     let from = c .before .before .before .before .args .from in
-    let rest = getD row (from / 8) 0 / 2 ^ (from % 8) in
-    let split : 8 * (from / 8) + from % 8 ≡ from = omega arith in
+    let at = from / 64 * 8 in
+    let rest = c .before .word .result / 2 ^ (from % 64) in
+    let split : 8 * at + from % 64 ≡ from = omega arith in
     sym
-    (ap (λ (k : ℕ). nextBit row k) (sym split)
-    ∙ next-in-byte row (from / 8) (from % 8) rest (omega arith) (omega arith) refl (c .before .shared-slice-known2 .given (from / 8) .fits) (c .if2 .taken)
-    ∙ ap (λ (k : ℕ). At (k + trailingZeros 8 rest)) split)
+    (ap (nextBit row) (sym split)
+    ∙ next-in-number row at 8 (from % 64) rest (λ j l. c .before .before .before .shared-slice-known .given (at + j) .fits) (omega arith) (ap (λ (n : ℕ). n / 2 ^ (from % 64)) (c .before .word .ensures)) (c .if2 .taken)
+    ∙ ap (λ (k : ℕ). At (k + trailingZeros 64 rest)) split)
 
-add-next-byte : tie.Need-add-next-byte
-add-next-byte c = search needs
+add-next-by-words : tie.Need-add-next-by-words
+add-next-by-words c = search needs
 
-next-byte-requires : tie.Need-next-byte-requires
-next-byte-requires c κs = search needs
+next-by-words-requires : tie.Need-next-by-words-requires
+next-by-words-requires c κs = search needs
 
 returns-3 : tie.Need-returns-3
 returns-3 c =
     let row = c .before .before .before .before .before .args .row .now in
     let from = c .before .before .before .before .before .args .from in
-    c .next-byte .ensures
+    let at = from / 64 * 8 in
+    c .next-by-words .ensures
     ∙ sym
-    (next-skip row from (8 * (from / 8 + 1)) (omega arith)
-    (λ a p q. rest-clear row (from / 8) (from % 8) (omega arith) (c .before .if2 .left) a (omega arith) (omega arith)))
+    (next-skip row from (8 * (at + 8)) (omega arith)
+    (λ a p q.
+    number-clear row at 8 (from % 64) (λ j l. c .before .before .before .before .shared-slice-known .given (at + j) .fits) (ap (λ (n : ℕ). n / 2 ^ (from % 64)) (sym (c .before .before .word .ensures)) ∙ c .before .if2 .left) a (omega arith) (omega arith)))
 
 pub next-spec : {M : Type 1} → statement M
 next-spec =
     tie.close
     (tie.spec
+    mul-at
+    add-if1
+    next-by-bytes-requires
     returns
-    shared-slice-read-rest
-    cast-rest
+    word-requires
     shr-rest
     cast-t11
     add-t12
     returns-2
-    add-next-byte
-    next-byte-requires
+    add-next-by-words
+    next-by-words-requires
     returns-3)

@@ -1,19 +1,19 @@
--- `rows::next_byte` meets its contract: every byte passed is 0.
+-- `bytewise::next_byte` meets its contract: every byte passed is 0.
 use mathlib.Core.Path.{refl, sym, ap, _∙_, _≡_}
 use Prim.Native.Nat.{_/_, ℕ, _+_, _-_, _*_, _≤_, _<_}
 use native.Mathlib.Nat.{div-one, add-zero}
 use native.Mathlib.Decide.{decLt}
 use lib.Count.{trailingZeros, trailing-le}
 use Rattle.rows.specs.Next.{nextBit}
 use Rattle.rows.specs.declared.Found.the-variants.{At}
 use lib.Dec.{lit<}
 use Rattle.rows.proofs.Bits.{bit-past}
 use Rattle.rows.proofs.Lowest.{zero-byte, next-in-byte, next-skip, next-none}
 use borrow.Author.Needs.{needs}
 use native.Mathlib.Omega.{arith}
 use lib.ListN.{length, getD}
-use Rattle.rows.proofs.next_byte.Statement.{statement}
-use Rattle.rows.proofs.next_byte.Tie as tie
+use Rattle.bytewise.proofs.next_byte.Statement.{statement}
+use Rattle.bytewise.proofs.next_byte.Tie as tie
 
 abbrev Inv-loop : tie.InvT-loop
 Inv-loop row from at₀ at = (from ≤ at) × ((k : ℕ) → from ≤ k → k < at → getD row k 0 ≡ 0)
