@@ -8,7 +8,7 @@ use native.Mathlib.Omega.{arith}
 use native.Mathlib.Decide.{decLt, ℕ-discrete}
 use lib.ListN.{length, getD}
 use lib.Dec.{lit<}
-use lib.Count.{trailingZeros}
+use lib.Count.{trailingZeros, trailing-le}
 use lib.Pow.{shr-le}
 use Rattle.rows.specs.Bits.{bit, byteBit, anyBit}
 use Rattle.rows.specs.Next.{lowest, nextBit}
@@ -181,6 +181,13 @@ module _ (row : List ℕ) (p w n : ℕ) (same : (j : ℕ) → j < w → byteBit 
       let j = a - (p + s) in
       let there : a ≡ p + (s + j) = omega arith in
       ap (bit row) there ∙ sym (same (s + j) (omega arith)) ∙ sym (shifted j) ∙ trailing-low w x j (omega arith))
+
+-- A place and the zeros below a lowest set digit fit in 64 bits.
+pub place-fits : (w i x : ℕ) → i + w < 2 ^ 64 → i + trailingZeros w x < 2 ^ 64
+place-fits w i x h = omega (arith, trailing-le w x)
+
+pub zeros-fit : (w x : ℕ) → w < 2 ^ 64 → trailingZeros w x < 2 ^ 64
+zeros-fit w x h = lt-of-le-of-lt (trailing-le w x) h
 
 -- Both for byte q.
 pub next-in-byte : (row : List ℕ) (q s x : ℕ) → q < length row → s < 8 → x ≡ getD row q 0 / 2 ^ s → getD row q 0 < 256 → (x ≡ 0 → ⊥) → nextBit row (8 * q + s) ≡ At (8 * q + s + trailingZeros 8 x)

@@ -75,13 +75,13 @@ number-bit row at (suc k) i bs h =
     elim (decLt i (8 * k)) [
       | yes l ↦ bit-below (8 * k) byte rest i l ∙ number-bit row at k i (fewer row at k bs) l
       | no g ↦
-        let j = i - 8 * k in
-        let there : 8 * k + j ≡ i = omega arith in
-        let here : 8 * (at + k) + j ≡ 8 * at + i = omega arith in
-        ap (byteBit (byte * 2 ^ (8 * k) + rest)) (sym there)
-        ∙ bit-above (8 * k) byte rest j (number-lt row at k (fewer row at k bs))
-        ∙ sym (bit-at row (at + k) j (omega arith))
-        ∙ ap (bit row) here
+          let j = i - 8 * k in
+          let there : 8 * k + j ≡ i = omega arith in
+          let here : 8 * (at + k) + j ≡ 8 * at + i = omega arith in
+          ap (byteBit (byte * 2 ^ (8 * k) + rest)) (sym there)
+          ∙ bit-above (8 * k) byte rest j (number-lt row at k (fewer row at k bs))
+          ∙ sym (bit-at row (at + k) j (omega arith))
+          ∙ ap (bit row) here
     ]
 
 -- The number's set bits are those of its bytes, added up.

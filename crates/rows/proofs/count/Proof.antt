@@ -60,7 +60,7 @@ unfolding countBits
 add-result c =
     let row = c .before .before .before .before .args .row .now in
     let l = c .before .before .loop in
-    omega (arith, count-le (bit row) (8 * length row), l .inv .1, c .count-by-bytes .ensures, c .before .before .before .before .pre)
+    omega (arith, count-le (bit row) (8 * length row), count-le (bit row) (8 * l .k), l .inv .1, c .count-by-bytes .ensures, c .before .before .before .before .pre)
 
 returns : tie.Need-returns Inv-loop μ-loop
 returns c = ap (λ (n : ℕ). n + c .count-by-bytes .result) (c .before .before .loop .inv .1) ∙ c .count-by-bytes .ensures

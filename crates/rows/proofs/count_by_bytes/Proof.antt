@@ -10,8 +10,6 @@ use Rattle.rows.specs.Bits.{bit, countBelow, countBits}
 use Rattle.rows.proofs.Counting.{count-byte, count-le}
 use Rattle.rows.proofs.count_by_bytes.Statement.{statement}
 use Rattle.rows.proofs.count_by_bytes.Tie as tie
-use Rattle.rows.proofs.count_by_bytes.Reads as reads
-use Rattle.rows.proofs.count_by_bytes.Lts as lts
 
 abbrev Inv-loop : tie.InvT-loop
 Inv-loop row from total₀ k₀ total k = (k ≤ length row) × (countBelow (bit row) (8 * from) + total ≡ countBelow (bit row) (8 * k))

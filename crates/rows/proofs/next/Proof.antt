@@ -3,10 +3,11 @@ use mathlib.Core.Path.{_≡_, sym, ap, _∙_}
 use borrow.Author.Needs.{needs}
 use Prim.Native.Nat.{ℕ, _+_, _*_, _/_, _%_, _^_}
 use native.Mathlib.Omega.{arith}
-use lib.Count.{trailingZeros, trailing-le}
+use lib.Count.{trailingZeros}
+use lib.Dec.{lit<}
 use Rattle.rows.specs.Next.{nextBit}
 use Rattle.rows.specs.declared.Found.the-variants.{At}
-use Rattle.rows.proofs.Lowest.{next-in-number, next-skip, number-clear}
+use Rattle.rows.proofs.Lowest.{place-fits, zeros-fit, next-in-number, next-skip, number-clear}
 use Rattle.rows.proofs.next.Statement.{statement}
 use Rattle.rows.proofs.next.Tie as tie
 
@@ -29,14 +30,10 @@ shr-rest : tie.Need-shr-rest
 shr-rest c = search needs
 
 cast-t11 : tie.Need-cast-t11
-cast-t11 c =
-    let from = c .before .before .before .before .args .from in
-    omega (arith, trailing-le 64 (c .before .word .result / 2 ^ (from % 64)))
+cast-t11 c = record { fits = zeros-fit 64 _ (lit< tt) }
 
 add-t12 : tie.Need-add-t12
-add-t12 c =
-    let from = c .before .before .before .before .args .from in
-    omega (arith, trailing-le 64 (c .before .word .result / 2 ^ (from % 64)), c .before .before .before .before .pre)
+add-t12 c = record { fits = place-fits 64 _ _ (omega (arith, c .before .before .before .before .pre)) }
 
 returns-2 : tie.Need-returns-2
 returns-2 c =

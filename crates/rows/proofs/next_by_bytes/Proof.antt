@@ -4,15 +4,14 @@ use borrow.Author.Needs.{needs}
 use Prim.Native.Nat.{ℕ, _+_, _-_, _*_, _/_, _%_, _^_}
 use native.Mathlib.Omega.{arith}
 use lib.ListN.{length, getD}
-use lib.Count.{trailingZeros, trailing-le}
+use lib.Count.{trailingZeros}
+use lib.Dec.{lit<}
 use Rattle.rows.specs.Next.{nextBit}
 use Rattle.rows.specs.declared.Found.the-variants.{At}
 use Rattle.rows.proofs.Bits.{bit-past}
-use Rattle.rows.proofs.Lowest.{next-in-byte, next-skip, next-none, rest-clear}
+use Rattle.rows.proofs.Lowest.{place-fits, zeros-fit, next-in-byte, next-skip, next-none, rest-clear}
 use Rattle.rows.proofs.next_by_bytes.Statement.{statement}
 use Rattle.rows.proofs.next_by_bytes.Tie as tie
-use Rattle.rows.proofs.next_by_bytes.Reads as reads
-use Rattle.rows.proofs.next_by_bytes.Lts as lts
 
 abbrev Inv-loop : tie.InvT-loop
 Inv-loop row from i₀ i = nextBit row from ≡ nextBit row i
@@ -33,16 +32,10 @@ shr-rest : tie.Need-shr-rest Inv-loop μ-loop
 shr-rest c = search needs
 
 cast-t12 : tie.Need-cast-t12 Inv-loop μ-loop
-cast-t12 c =
-    let row = c .before .before .before .before .args .row .now in
-    let i = c .before .before .before .loop .i in
-    omega (arith, trailing-le 8 (getD row (i / 8) 0 / 2 ^ (i % 8)))
+cast-t12 c = record { fits = zeros-fit 8 _ (lit< tt) }
 
 add-t13 : tie.Need-add-t13 Inv-loop μ-loop
-add-t13 c =
-    let row = c .before .before .before .before .args .row .now in
-    let i = c .before .before .before .loop .i in
-    omega (arith, trailing-le 8 (getD row (i / 8) 0 / 2 ^ (i % 8)), c .before .before .before .before .pre)
+add-t13 c = record { fits = place-fits 8 _ _ (omega (arith, c .before .before .before .before .pre)) }
 
 returns : tie.Need-returns Inv-loop μ-loop
 returns c =
@@ -53,7 +46,7 @@ returns c =
     sym
     (c .before .before .before .loop .inv
     ∙ ap (nextBit row) (sym split)
-    ∙ next-in-byte row (i / 8) (i % 8) rest (c .before .before .loop-test .taken) (omega arith) refl (c .before .shared-slice-known .given (i / 8) .fits) (c .if1 .taken)
+    ∙ next-in-byte row (i / 8) (i % 8) rest (omega arith) (omega arith) refl (c .before .shared-slice-known .given (i / 8) .fits) (c .if1 .taken)
     ∙ ap (λ (k : ℕ). At (k + trailingZeros 8 rest)) split)
 
 mul-i : tie.Need-mul-i Inv-loop μ-loop

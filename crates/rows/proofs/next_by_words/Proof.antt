@@ -5,14 +5,13 @@ use Prim.Native.Nat.{ℕ, _+_, _-_, _*_, _≤_}
 use native.Mathlib.Nat.{add-zero, div-one}
 use native.Mathlib.Omega.{arith}
 use lib.ListN.{length}
-use lib.Count.{trailingZeros, trailing-le}
+use lib.Count.{trailingZeros}
+use lib.Dec.{lit<}
 use Rattle.rows.specs.Next.{nextBit}
 use Rattle.rows.specs.declared.Found.the-variants.{At}
-use Rattle.rows.proofs.Lowest.{next-in-number, next-skip, number-clear}
+use Rattle.rows.proofs.Lowest.{place-fits, zeros-fit, next-in-number, next-skip, number-clear}
 use Rattle.rows.proofs.next_by_words.Statement.{statement}
 use Rattle.rows.proofs.next_by_words.Tie as tie
-use Rattle.rows.proofs.next_by_words.Reads as reads
-use Rattle.rows.proofs.next_by_words.Lts as lts
 
 abbrev Inv-loop : tie.InvT-loop
 Inv-loop row from at₀ at = (at ≤ length row) × (nextBit row (8 * from) ≡ nextBit row (8 * at))
@@ -33,10 +32,10 @@ mul-t8 : tie.Need-mul-t8 Inv-loop μ-loop
 mul-t8 c = omega (arith, c .before .before .before .before .before .pre)
 
 cast-t10 : tie.Need-cast-t10 Inv-loop μ-loop
-cast-t10 c = omega (arith, trailing-le 64 (c .before .word .result))
+cast-t10 c = record { fits = zeros-fit 64 _ (lit< tt) }
 
 add-t11 : tie.Need-add-t11 Inv-loop μ-loop
-add-t11 c = omega (arith, trailing-le 64 (c .before .word .result), c .before .before .before .before .before .pre)
+add-t11 c = record { fits = place-fits 64 _ _ (omega (arith, c .before .before .before .before .before .pre)) }
 
 returns : tie.Need-returns Inv-loop μ-loop
 returns c =

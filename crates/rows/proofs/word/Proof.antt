@@ -10,8 +10,6 @@ use Rattle.rows.specs.Words.{numberAt}
 use Rattle.rows.proofs.Words.{number-more}
 use Rattle.rows.proofs.word.Statement.{statement}
 use Rattle.rows.proofs.word.Tie as tie
-use Rattle.rows.proofs.word.Reads as reads
-use Rattle.rows.proofs.word.Lts as lts
 
 abbrev Inv-loop : tie.InvT-loop
 Inv-loop row at number₀ k₀ number k = (k ≤ 8) × (number ≡ numberAt row at k)
