@@ -8,8 +8,8 @@ use native.Mathlib.Numerals.{one-add, add-one}
 use native.Mathlib.Decide.{decLt}
 use native.Mathlib.Omega.{arith}
 use lib.Dec.{eqb, lit<}
-use lib.Bits.{bitAnd, bitOr, or-shr, and-shr, or-mod, and-mod}
-use lib.Pow.{shr-lt, shr-shr, pow-mono}
+use lib.Bits.{bitAnd, bitOr, or-shr, and-shr, or-mod, and-mod, block-half, block-odd}
+use lib.Pow.{shr-lt, shr-shr, pow-mono, high}
 use lib.Count.{trailingZeros, under}
 use Rattle.rows.specs.Bits.{byteBit, byteMinus}
 
@@ -177,6 +177,21 @@ byteBit-shift x s k = ap (λ (n : ℕ). eqb (n % 2) 1) (shr-shr x s k)
 pub byteBit-past : (w x k : ℕ) → x < 2 ^ w → w ≤ k → byteBit x k ≡ false
 unfolding byteBit
 byteBit-past w x k h l = ap (λ (n : ℕ). eqb (n % 2) 1) (div-eq-of-lt (lt-of-lt-of-le h (pow-mono l)))
+
+-- ---- a number above another of m digits
+
+pub byteBit-below : (m a r i : ℕ) → i < m → byteBit (a * 2 ^ m + r) i ≡ byteBit r i
+byteBit-below zero a r i h = absurd (not-suc-le-zero h)
+byteBit-below (suc m) a r zero h =
+    byteBit-low (a * 2 ^ suc m + r) ∙ ap (λ (n : ℕ). eqb n 1) (block-odd a m r) ∙ sym (byteBit-low r)
+byteBit-below (suc m) a r (suc i) h =
+    byteBit-half (a * 2 ^ suc m + r) i
+    ∙ ap (λ (n : ℕ). byteBit n i) (block-half a m r)
+    ∙ byteBit-below m a (r / 2) i (le-of-suc-le-suc h)
+    ∙ sym (byteBit-half r i)
+
+pub byteBit-above : (m a r j : ℕ) → r < 2 ^ m → byteBit (a * 2 ^ m + r) (m + j) ≡ byteBit a j
+byteBit-above m a r j h = sym (byteBit-shift (a * 2 ^ m + r) m j) ∙ ap (λ (n : ℕ). byteBit n j) (high a m h)
 
 -- ---- one byte without another's bits
 

@@ -1,9 +1,10 @@
 //! Measures the library against plain Rust, both in one run.
 //!
-//!     times                     classify of the files in ../data, edits, reading
+//!     times                     classify of the files in ../data, edits, reading, rows
 //!     times classify [FILE..]   classify of these files, or of those in ../data
 //!     times edits               add and withdraw, beside classify
 //!     times reading             lookup, listing, row and write: nanoseconds
+//!     times rows                rows of 64 bytes by words and byte by byte: nanoseconds
 //!     times instructions        all of these: instructions, counted by callgrind
 
 mod classify;
@@ -11,6 +12,8 @@ mod counting;
 mod data;
 mod edits;
 mod reading;
+mod rows;
+mod timing;
 
 fn main() {
     let arguments: Vec<String> = std::env::args().skip(1).collect();
@@ -22,21 +25,26 @@ fn main() {
             edits::times();
             println!();
             reading::times();
+            rows::times();
         }
         ["classify", ref files @ ..] => classify::time(files),
         ["edits"] => edits::times(),
         ["reading"] => reading::times(),
+        ["rows"] => rows::times(),
         ["instructions"] => {
             classify::instructions();
             println!();
             edits::instructions();
             println!();
             reading::instructions();
+            rows::instructions();
         }
+        ["instructions", "rows"] => rows::instructions(),
         // What callgrind runs.
         ["read", ref case @ ..] => reading::repeat(case),
         ["edit", kind, name, which] => edits::once(kind, name, which),
         ["once", side, file] => classify::once(side, file),
-        _ => eprintln!("times [classify [FILE..] | edits | reading | instructions]"),
+        ["row", row, task, way] => rows::once([row, task, way]),
+        _ => eprintln!("times [classify [FILE..] | edits | reading | rows | instructions [rows]]"),
     }
 }

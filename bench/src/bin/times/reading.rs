@@ -3,13 +3,13 @@
 
 use super::counting::{self, Scratch};
 use super::data::{self, Named};
+use super::timing;
 use bench::plain::reading as plain;
 use bench::{calls, exported};
 use reference::catalogue::{Catalogue, MAX_AXIOMS};
 use reference::store::Layout;
 use std::hint::black_box;
 use std::path::Path;
-use std::time::Instant;
 
 const FILES: [&str; 4] = ["w1", "bookings-0", "timing-medium", "timing-dense"];
 
@@ -154,37 +154,15 @@ fn buffer(catalogue: &[u8]) -> Vec<u8> {
     vec![0; catalogue.len().max(1024)]
 }
 
-/// Nanoseconds of each call: the least average of many short rounds, all calls
-/// in turn, since the machine may be busy at any moment.
+/// Nanoseconds of each call.
 fn nanoseconds(runs: &[Run], catalogue: &[u8]) -> Vec<f64> {
-    const ROUNDS: usize = 100;
     let mut buffer = buffer(catalogue);
-    let mut average = |&Run(side, case): &Run, calls: usize| {
-        let start = Instant::now();
-        for _ in 0..calls {
-            let (catalogue, store) = (black_box(catalogue), black_box(&case.store[..]));
-            black_box(make(
-                side,
-                black_box(case.call),
-                catalogue,
-                store,
-                &mut buffer,
-            ));
-        }
-        1e9 * start.elapsed().as_secs_f64() / calls as f64
-    };
-    let calls_in_half_a_millisecond = |first: f64| (5e5 / first).clamp(5.0, 1e5) as usize;
-    let calls: Vec<usize> = runs
-        .iter()
-        .map(|run| calls_in_half_a_millisecond(average(run, 5)))
-        .collect();
-    let mut least = vec![f64::MAX; runs.len()];
-    for _ in 0..ROUNDS {
-        for (i, run) in runs.iter().enumerate() {
-            least[i] = least[i].min(average(run, calls[i]));
-        }
-    }
-    least
+    timing::nanoseconds(runs.len(), |i| {
+        let Run(side, case) = runs[i];
+        let (catalogue, store) = (black_box(catalogue), black_box(&case.store[..]));
+        let call = black_box(case.call);
+        black_box(make(side, call, catalogue, store, &mut buffer));
+    })
 }
 
 /// Instructions of a call.

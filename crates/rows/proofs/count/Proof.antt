@@ -1,14 +1,13 @@
 -- `rows::count` meets its contract: the total is the count of the words passed, and what is left is counted byte by byte.
-use mathlib.Core.Path.{_≡_, refl, sym, ap, ap₂, _∙_, subst}
+use mathlib.Core.Path.{_≡_, refl, sym, ap, ap₂, _∙_}
 use borrow.Author.Needs.{needs}
-use Prim.Native.Nat.{ℕ, _+_, _-_, _*_, _^_, _≤_, _<_}
+use Prim.Native.Nat.{ℕ, _+_, _-_, _*_, _≤_}
 use native.Mathlib.Omega.{arith}
 use lib.ListN.{length}
 use lib.Count.{ones, ones-le}
 use Rattle.rows.specs.Bits.{bit, countBelow, countBits}
-use Rattle.rows.specs.Words.{numberAt}
 use Rattle.rows.proofs.Counting.{count-le}
-use Rattle.rows.proofs.Words.{number-lt, count-number}
+use Rattle.rows.proofs.Words.{count-number}
 use Rattle.rows.proofs.count.Statement.{statement}
 use Rattle.rows.proofs.count.Tie as tie
 
