@@ -7,6 +7,7 @@ use crate::fixed;
 use crate::inputs;
 use crate::listing;
 use crate::programs;
+use crate::rows;
 use crate::running;
 use std::fs;
 use std::io;
@@ -24,7 +25,7 @@ pub const PROGRAMS: &[(&str, Output)] = &[
     ("gate_listing_many", listing::text),
     ("gate_listing_refused", listing::text),
     ("gate_listing_wide", listing::text),
-    ("gate_rows", fixed::gate_rows),
+    ("gate_rows", rows::text),
     ("gate_catalogue", programs::gate_catalogue),
     ("gate_structure", fixed::gate_structure),
     ("gate_store", fixed::gate_store),

@@ -1,5 +1,5 @@
-//! The text of the check programs that read no input. What they are run on
-//! stands here again.
+//! The text of gate_structure and gate_store, which read no input. What they
+//! are run on stands here again.
 
 use crate::catalogue::{Axiom, Catalogue, Concept, MAX_AXIOMS, Refusal, require};
 use crate::examples;
@@ -20,48 +20,9 @@ fn plain(concepts: Vec<Concept>, roles: usize, inclusions: Vec<(usize, usize)>) 
 }
 
 /// Numbers, each after a space.
-fn spaced(numbers: impl IntoIterator<Item = usize>) -> String {
+pub(crate) fn spaced(numbers: impl IntoIterator<Item = usize>) -> String {
     let numbers = numbers.into_iter();
     numbers.map(|number| format!(" {number}")).collect()
-}
-
-/// Sets of numbers below 24, as rows of three bytes.
-pub fn gate_rows(_: &[u8]) -> String {
-    let none = BTreeSet::new();
-    let put = BTreeSet::from([0, 7, 8, 19]);
-    let cleared = BTreeSet::from([0, 19]);
-    let other = BTreeSet::from([4, 5, 6, 7, 16, 23]);
-    let joined: BTreeSet<usize> = &cleared | &other;
-    let last = &joined | &BTreeSet::from([16 + 6]);
-    let has = [0, 1, 7, 8, 18, 19, 24, 99].map(|i| usize::from(put.contains(&i)));
-    let places = [0, 1, 7, 8, 9, 19, 20, 24, 1_000_000];
-    let nexts = |row: &BTreeSet<usize>| places.map(|from| next(row, from)).concat();
-    [
-        format!("empty:{}{}", row_text(&none), next(&none, 0)),
-        format!("put 0 7 8 19:{}", row_text(&put)),
-        format!("has 0 1 7 8 18 19 24 99:{}", spaced(has)),
-        format!("next{}:{}", spaced(places), nexts(&put)),
-        format!("clear 7 8:{}", row_text(&cleared)),
-        format!("next{}:{}", spaced(places), nexts(&cleared)),
-        format!("or 240 0 129:{}", row_text(&joined)),
-        format!("row 2 of three, bit 6:{}", row_text(&last)),
-    ]
-    .map(|line| line + " \n")
-    .concat()
-}
-
-/// The first number from a place on.
-fn next(row: &BTreeSet<usize>, from: usize) -> String {
-    let found = row.range(from..).next();
-    found.map_or(" none".to_string(), |i| format!(" {i}"))
-}
-
-/// The bytes of a row, whether it has a bit, and how many.
-fn row_text(row: &BTreeSet<usize>) -> String {
-    let bits = |byte| row.iter().filter(move |&&i| i / 8 == byte);
-    let bytes = (0..3).map(|byte| bits(byte).map(|i| 1 << (i % 8)).sum());
-    let any = if row.is_empty() { "none" } else { "any" };
-    format!("{} {any} {}", spaced(bytes), row.len())
 }
 
 /// What contains what, what reaches what, and numbers that a reader finds.

@@ -13,7 +13,8 @@
 //! - `calls`: the public calls, each with its checks in order
 //! - `exports`: those that C and Rust call
 //! - `listing`: the text of the listing program
-//! - `programs`, `fixed`, `edits`, `running`: the text of the check programs
+//! - `programs`, `fixed`, `rows`, `edits`, `running`: the text of the check
+//!   programs
 //! - `checksum`: the checksum that they print
 //! - `examples`: built-in catalogues
 //! - `inputs`, `edit_cases`, `running_cases`: inputs of programs
@@ -37,6 +38,7 @@ pub mod listing;
 pub mod programs;
 pub mod random;
 pub mod rounds;
+pub mod rows;
 pub mod rules;
 pub mod running;
 pub mod running_cases;
