@@ -98,7 +98,7 @@ pub fn any(row: &[u8]) -> bool
     found
 }
 
-// How many bits are set.
+// How many bits are set: by words while eight bytes are left, then byte by byte.
 pub fn count(row: &[u8]) -> usize
     requires { ⌜ length (now row) ≤ 1048576 ⌝ }
     ensures { λ r. ⌜ r ≡ countBits (now (row .entry)) ⌝ }
@@ -112,20 +112,23 @@ pub fn count(row: &[u8]) -> usize
     total + count_by_bytes(row, k)
 }
 
-// The lowest set bit from a given one on, itself included; the given one may lie past the end.
+// The lowest set bit from a given one on, itself included; the given one may lie past the end. The word that holds it is read without the bits below
+// it, then whole words, then what is left byte by byte.
 pub fn next(row: &[u8], from: usize) -> Found
     requires { ⌜ length (now row) ≤ 1048576 ⌝ }
     ensures { λ r. ⌜ r ≡ nextBit (now (row .entry)) from ⌝ }
 {
-    let at = from / 64 * 8;
-    if row.len() < at + 8 {
-        return next_by_bytes(row, from);
+    let mut at = from / 64 * 8;
+    let mut below = from % 64;
+    while at + 8 <= row.len() {
+        let rest = word(row, at) >> below;
+        if rest != 0 {
+            return Found::At(8 * at + below + u64::trailing_zeros(rest) as usize);
+        }
+        at += 8;
+        below = 0;
     }
-    let rest = word(row, at) >> (from % 64);
-    if rest != 0 {
-        return Found::At(from + u64::trailing_zeros(rest) as usize);
-    }
-    next_by_words(row, at + 8)
+    next_by_bytes(row, 8 * at + below)
 }
 
 // The lowest set bit from a given one on that is below n, or n where there is none.
@@ -165,22 +168,6 @@ fn count_by_bytes(row: &[u8], from: usize) -> usize
         k += 1;
     }
     total
-}
-
-// The lowest set bit from a given byte on: by whole words, and then what is left byte by byte.
-fn next_by_words(row: &[u8], from: usize) -> Found
-    requires { ⌜ (length (now row) ≤ 1048576) × (from ≤ length (now row)) ⌝ }
-    ensures { λ r. ⌜ r ≡ nextBit (now (row .entry)) (8 * from) ⌝ }
-{
-    let mut at = from;
-    while 8 <= row.len() - at {
-        let number = word(row, at);
-        if number != 0 {
-            return Found::At(8 * at + u64::trailing_zeros(number) as usize);
-        }
-        at += 8;
-    }
-    next_by_bytes(row, 8 * at)
 }
 
 // The lowest set bit from a given one on, byte by byte.

@@ -1,82 +1,110 @@
--- `rows::next` meets its contract: the rest of the word that holds the given bit is looked at, and then the words after it.
+-- `rows::next` meets its contract: a search from the given bit on goes on from the word reached.
 use mathlib.Core.Path.{_≡_, sym, ap, _∙_}
 use borrow.Author.Needs.{needs}
-use Prim.Native.Nat.{ℕ, _+_, _*_, _/_, _%_, _^_}
+use Prim.Native.Nat.{ℕ, _+_, _-_, _*_, _/_, _^_, _<_}
 use native.Mathlib.Omega.{arith}
-use lib.Count.{trailingZeros}
+use lib.ListN.{length}
 use lib.Dec.{lit<}
 use Rattle.rows.specs.Next.{nextBit}
-use Rattle.rows.specs.declared.Found.the-variants.{At}
 use Rattle.rows.proofs.Lowest.{place-fits, zeros-fit, next-in-number, next-skip, number-clear}
 use Rattle.rows.proofs.next.Statement.{statement}
 use Rattle.rows.proofs.next.Tie as tie
 
-mul-at : tie.Need-mul-at
+abbrev Inv-loop : tie.InvT-loop
+Inv-loop row from at₀ below₀ at below = (8 * at + below < 2 ^ 64) × (below < 64) × (nextBit row from ≡ nextBit row (8 * at + below))
+
+abbrev μ-loop : tie.MeasureT-loop
+μ-loop row from at₀ below₀ at below = length row - at
+
+mul-at : tie.Need-mul-at Inv-loop μ-loop
 mul-at c = search needs
 
-add-if1 : tie.Need-add-if1
-add-if1 c = search needs
+loop-holds : tie.Need-loop-holds Inv-loop μ-loop
+loop-holds c =
+    let a = c .before .args in (
+      search needs,
+      search needs,
+      ap (nextBit (a .row .now)) (omega arith),
+    )
 
-next-by-bytes-requires : tie.Need-next-by-bytes-requires
-next-by-bytes-requires c κs = search needs
+add-loop : tie.Need-add-loop Inv-loop μ-loop
+add-loop c = search needs
 
-returns : tie.Need-returns
-returns c = search needs
-
-word-requires : tie.Need-word-requires
+word-requires : tie.Need-word-requires Inv-loop μ-loop
 word-requires c κs = search needs
 
-shr-rest : tie.Need-shr-rest
+shr-rest : tie.Need-shr-rest Inv-loop μ-loop
 shr-rest c = search needs
 
-cast-t11 : tie.Need-cast-t11
-cast-t11 c = record { fits = zeros-fit 64 _ (lit< tt) }
+mul-t12 : tie.Need-mul-t12 Inv-loop μ-loop
+mul-t12 c = search needs
 
-add-t12 : tie.Need-add-t12
-add-t12 c = record { fits = place-fits 64 _ _ (omega (arith, c .before .before .before .before .pre)) }
+add-t13 : tie.Need-add-t13 Inv-loop μ-loop
+add-t13 c = search needs
 
-returns-2 : tie.Need-returns-2
-returns-2 c =
-    let row = c .before .before .before .before .args .row .now in
-    let from = c .before .before .before .before .args .from in
-    let at = from / 64 * 8 in
-    let rest = c .before .word .result / 2 ^ (from % 64) in
-    let split : 8 * at + from % 64 ≡ from = omega arith in
-    sym
-    (ap (nextBit row) (sym split)
-    ∙ next-in-number row at 8 (from % 64) rest (λ j l. c .before .before .before .shared-slice-known .given (at + j) .fits) (omega arith) (ap (λ (n : ℕ). n / 2 ^ (from % 64)) (c .before .word .ensures)) (c .if2 .taken)
-    ∙ ap (λ (k : ℕ). At (k + trailingZeros 64 rest)) split)
+cast-t15 : tie.Need-cast-t15 Inv-loop μ-loop
+cast-t15 c = record { fits = zeros-fit 64 _ (lit< tt) }
 
-add-next-by-words : tie.Need-add-next-by-words
-add-next-by-words c = search needs
+add-t16 : tie.Need-add-t16 Inv-loop μ-loop
+add-t16 c = record { fits = place-fits 64 _ _ (omega (arith, c .before .before .before .before .before .pre)) }
 
-next-by-words-requires : tie.Need-next-by-words-requires
-next-by-words-requires c κs = search needs
-
-returns-3 : tie.Need-returns-3
-returns-3 c =
+returns : tie.Need-returns Inv-loop μ-loop
+returns c =
     let row = c .before .before .before .before .before .args .row .now in
-    let from = c .before .before .before .before .before .args .from in
-    let at = from / 64 * 8 in
-    c .next-by-words .ensures
-    ∙ sym
-    (next-skip row from (8 * (at + 8)) (omega arith)
-    (λ a p q.
-    number-clear row at 8 (from % 64) (λ j l. c .before .before .before .before .shared-slice-known .given (at + j) .fits) (ap (λ (n : ℕ). n / 2 ^ (from % 64)) (sym (c .before .before .word .ensures)) ∙ c .before .if2 .left) a (omega arith) (omega arith)))
+    let l = c .before .before .before .loop in
+    sym
+    (l .inv .2
+    ∙ next-in-number row (l .at) 8 (l .below) _ (λ j h. c .before .before .before .before .shared-slice-known .given (l .at + j) .fits) (c .before .before .loop-test .taken) (ap (λ (n : ℕ). n / 2 ^ l .below) (c .before .word .ensures)) (c .if1 .taken))
+
+add-at : tie.Need-add-at Inv-loop μ-loop
+add-at c = search needs
+
+loop-less : tie.Need-loop-less Inv-loop μ-loop
+loop-less c = search needs
+
+loop-again : tie.Need-loop-again Inv-loop μ-loop
+loop-again c =
+    let row = c .before .before .before .before .before .args .row .now in
+    let l = c .before .before .before .loop in (
+      omega (arith, c .before .before .before .before .before .pre),
+      lit< tt,
+      l .inv .2
+          ∙ next-skip row (8 * l .at + l .below) (8 * (l .at + 8) + 0) (omega arith)
+          (λ a p q. number-clear row (l .at) 8 (l .below) (λ j h. c .before .before .before .before .shared-slice-known .given (l .at + j) .fits) (ap (λ (n : ℕ). n / 2 ^ l .below) (sym (c .before .word .ensures)) ∙ c .if1 .left) a (omega arith) (omega arith)),
+    )
+
+mul-next-by-bytes : tie.Need-mul-next-by-bytes Inv-loop μ-loop
+mul-next-by-bytes c = search needs
+
+add-next-by-bytes : tie.Need-add-next-by-bytes Inv-loop μ-loop
+add-next-by-bytes c = search needs
+
+next-by-bytes-requires : tie.Need-next-by-bytes-requires Inv-loop μ-loop
+next-by-bytes-requires c κs = search needs
+
+returns-2 : tie.Need-returns-2 Inv-loop μ-loop
+returns-2 c = c .next-by-bytes .ensures ∙ sym (c .before .before .loop .inv .2)
 
 pub next-spec : {M : Type 1} → statement M
 next-spec =
     tie.close
     (tie.spec
+    Inv-loop
+    μ-loop
     mul-at
-    add-if1
-    next-by-bytes-requires
-    returns
+    loop-holds
+    add-loop
     word-requires
     shr-rest
-    cast-t11
-    add-t12
-    returns-2
-    add-next-by-words
-    next-by-words-requires
-    returns-3)
+    mul-t12
+    add-t13
+    cast-t15
+    add-t16
+    returns
+    add-at
+    loop-less
+    loop-again
+    mul-next-by-bytes
+    add-next-by-bytes
+    next-by-bytes-requires
+    returns-2)
