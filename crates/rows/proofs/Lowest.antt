@@ -182,14 +182,7 @@ module _ (row : List ℕ) (p w n : ℕ) (same : (j : ℕ) → j < w → byteBit 
       let there : a ≡ p + (s + j) = omega arith in
       ap (bit row) there ∙ sym (same (s + j) (omega arith)) ∙ sym (shifted j) ∙ trailing-low w x j (omega arith))
 
--- A place and the zeros below a lowest set digit fit in 64 bits.
-pub place-fits : (w i x : ℕ) → i + w < 2 ^ 64 → i + trailingZeros w x < 2 ^ 64
-place-fits w i x h = omega (arith, trailing-le w x)
-
-pub zeros-fit : (w x : ℕ) → w < 2 ^ 64 → trailingZeros w x < 2 ^ 64
-zeros-fit w x h = lt-of-le-of-lt (trailing-le w x) h
-
--- Both for byte q.
+-- The two laws of digits, for byte q.
 pub next-in-byte : (row : List ℕ) (q s x : ℕ) → q < length row → s < 8 → x ≡ getD row q 0 / 2 ^ s → getD row q 0 < 256 → (x ≡ 0 → ⊥) → nextBit row (8 * q + s) ≡ At (8 * q + s + trailingZeros 8 x)
 next-in-byte row q s x h l e byte nz =
     next-in-digits row (8 * q) 8 (getD row q 0) (λ j g. sym (bit-at row q j g)) byte (omega arith) s x e nz
@@ -204,6 +197,13 @@ next-in-number row q k s x bs h e nz =
 
 pub number-clear : (row : List ℕ) (q k s : ℕ) → BytesFrom row q k → numberAt row q k / 2 ^ s ≡ 0 → (a : ℕ) → 8 * q + s ≤ a → a < 8 * q + 8 * k → bit row a ≡ false
 number-clear row q k s bs e a p r = digits-clear row (8 * q) (8 * k) (numberAt row q k) (λ j g. number-bit row q k j bs g) s e a p r
+
+-- A place and the zeros below a lowest set digit fit in 64 bits.
+pub place-fits : (w i x : ℕ) → i + w < 2 ^ 64 → i + trailingZeros w x < 2 ^ 64
+place-fits w i x h = omega (arith, trailing-le w x)
+
+pub zeros-fit : (w x : ℕ) → w < 2 ^ 64 → trailingZeros w x < 2 ^ 64
+zeros-fit w x h = lt-of-le-of-lt (trailing-le w x) h
 
 -- A row with a byte that is not 0 has a set bit, and one whose bytes are all 0 has none.
 pub any-nonzero : (row : List ℕ) (q : ℕ) → q < length row → getD row q 0 < 256 → (getD row q 0 ≡ 0 → ⊥) → anyBit row ≡ true

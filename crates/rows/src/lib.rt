@@ -118,17 +118,15 @@ pub fn next(row: &[u8], from: usize) -> Found
     requires { ⌜ length (now row) ≤ 1048576 ⌝ }
     ensures { λ r. ⌜ r ≡ nextBit (now (row .entry)) from ⌝ }
 {
-    let mut at = from / 64 * 8;
-    let mut below = from % 64;
-    while at + 8 <= row.len() {
-        let rest = word(row, at) >> below;
+    let mut i = from;
+    while i / 64 * 8 + 8 <= row.len() {
+        let rest = word(row, i / 64 * 8) >> (i % 64);
         if rest != 0 {
-            return Found::At(8 * at + below + u64::trailing_zeros(rest) as usize);
+            return Found::At(i + u64::trailing_zeros(rest) as usize);
         }
-        at += 8;
-        below = 0;
+        i = i / 64 * 64 + 64;
     }
-    next_by_bytes(row, 8 * at + below)
+    next_by_bytes(row, i)
 }
 
 // The lowest set bit from a given one on that is below n, or n where there is none.

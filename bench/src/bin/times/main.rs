@@ -1,4 +1,5 @@
-//! Measures the library against plain Rust, both in one run.
+//! Measures the library against plain Rust, and rows by words against rows byte
+//! by byte, both in one run.
 //!
 //!     times                     classify of the files in ../data, edits, reading, rows
 //!     times classify [FILE..]   classify of these files, or of those in ../data
@@ -6,6 +7,7 @@
 //!     times reading             lookup, listing, row and write: nanoseconds
 //!     times rows                rows of 64 bytes by words and byte by byte: nanoseconds
 //!     times instructions        all of these: instructions, counted by callgrind
+//!     times instructions rows   those of the rows alone
 
 mod classify;
 mod counting;

@@ -62,14 +62,14 @@ fn table(unit: &str, measured: impl Fn() -> Vec<f64>) {
     println!("| row | task | words | bytes | bytes / words |");
     println!("|---|---|---|---|---|");
     let costs = measured();
-    for ((name, task), cost) in cases().zip(costs.chunks(2)) {
-        let (_, task, _) = TASKS[task];
-        let (words, bytes) = (cost[0], cost[1]);
-        println!(
-            "| {} | {task} | {words:.1} | {bytes:.1} | {:.1} |",
-            ROWS[name].0,
-            bytes / words
-        );
+    let (costs, _) = costs.as_chunks();
+    for ((row, task), [words, bytes]) in cases().zip(costs) {
+        let (name, row) = ROWS[row];
+        let (task, task_name, _) = TASKS[task];
+        let [found, other] = WAYS.map(|way| run(task, way, &row));
+        assert_eq!(found, other, "{name}: {task_name}");
+        let ratio = bytes / words;
+        println!("| {name} | {task_name} | {words:.1} | {bytes:.1} | {ratio:.1} |");
     }
 }
 
