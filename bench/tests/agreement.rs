@@ -29,7 +29,8 @@ fn catalogues() -> Vec<Catalogue> {
     };
     let more = [examples::w1, examples::w7, examples::w8, examples::w9];
     let more = more.iter().map(|make| make());
-    more.chain([examples::example4(), examples::tops(), roles])
+    let tops = examples::tops();
+    more.chain([examples::example4(), tops.bare(), tops, roles])
         .collect()
 }
 

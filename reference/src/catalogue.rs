@@ -164,6 +164,14 @@ impl Catalogue {
         })
     }
 
+    /// The same without axioms.
+    pub fn bare(&self) -> Catalogue {
+        Catalogue {
+            axioms: vec![],
+            ..self.clone()
+        }
+    }
+
     /// The length in bytes of the catalogue with `axioms` axioms.
     pub fn length_with(&self, axioms: usize) -> usize {
         self.offsets_with(axioms)[4]

@@ -166,11 +166,16 @@ impl Subject {
         }
     }
 
-    /// The store filled, and the catalogue classified into it.
-    fn afresh(&self, script: &mut Script) {
+    /// The store filled, and the catalogue with these bytes classified into it.
+    fn classify(&self, script: &mut Script, bytes: &[u8]) {
         script.fill(165, 0, STORE_LENGTH);
         let [store, work, _] = self.lengths();
-        script.call(CLASSIFY, &self.bytes, (0, 0), 0, [store, work, 0]);
+        script.call(CLASSIFY, bytes, (0, 0), 0, [store, work, 0]);
+    }
+
+    /// Classified with all its axioms.
+    fn afresh(&self, script: &mut Script) {
+        self.classify(script, &self.bytes);
     }
 
     /// New axioms added to a fresh store in a row and own ones withdrawn, each once
@@ -191,11 +196,11 @@ impl Subject {
         }
     }
 
-    /// The catalogue's axioms added one by one to an empty store, which is then as
-    /// if it were classified, and withdrawn one by one: it is empty again.
+    /// The catalogue's axioms added one by one to a store classified without any,
+    /// which is then as if it were classified with them, and withdrawn one by one: it
+    /// is as at first.
     fn one_by_one(&self, script: &mut Script) {
-        script.fill(165, 0, STORE_LENGTH);
-        script.fill(0, 0, self.lengths()[0]);
+        self.classify(script, &self.catalogue.bare().bytes());
         for call in [ADD, WITHDRAW] {
             for &axiom in &self.catalogue.axioms {
                 script.call(call, &self.bytes, axiom, 0, self.lengths());
@@ -340,6 +345,7 @@ const NAMES: &[&str] = &[
     "w7",
     "example4",
     "self-axiom",
+    "tops",
     "tiny-0",
     "tiny-2",
     "doubles-0",

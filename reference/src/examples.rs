@@ -72,10 +72,7 @@ pub fn w7() -> Catalogue {
 
 /// No axioms.
 pub fn w8() -> Catalogue {
-    Catalogue {
-        axioms: vec![],
-        ..w1()
-    }
+    w1().bare()
 }
 
 /// Eight concepts: a row has no spare bit.

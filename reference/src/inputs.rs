@@ -2,7 +2,7 @@
 //! catalogues and of those in `data/`.
 
 use crate::calls;
-use crate::catalogue::{Catalogue, Concept};
+use crate::catalogue::Concept;
 use crate::edit_cases;
 use crate::examples;
 use crate::running_cases;
@@ -52,6 +52,7 @@ const CLOSURE_CASES: &[(&str, u32, u32)] = &[
     ("dag-0", ALL, ALL),
     ("w10", ALL, ALL),
     ("tops", ALL, ALL),
+    ("tops-bare", ALL, ALL),
     ("example1", ALL, ALL),
     ("example4", ALL, ALL),
     ("w8", ALL, ALL),
@@ -112,6 +113,10 @@ const CALL_CASES: &[CallCase] = &[
     (1, [6, 0], NONE, [0, 0], "w1", "w1"),
     (1, [7, 0], NONE, [0, 0], "w1", "w1"),
     (1, [0, 0], NONE, [0, 0], "w1", "w8"),
+    (1, [4, 0], NONE, [0, 0], "w1", "w8"),
+    (1, [1, 0], NONE, [0, 0], "tops", "tops"),
+    (1, [1, 0], NONE, [0, 0], "tops", "tops-bare"),
+    (1, [4, 0], NONE, [0, 0], "tops", "tops-bare"),
     (1, [0, 0], NONE, [0, 0], "w9", "w9"),
     (1, [7, 0], NONE, [0, 0], "w9", "w9"),
     (1, [63, 0], NONE, [0, 0], "w10-bare", "w10"),
@@ -129,6 +134,7 @@ const CALL_CASES: &[CallCase] = &[
     (2, [0, 0], FOUR, [35, 27], "w1", ""),
     (2, [0, 0], FOUR, [35, 28], "w8", ""),
     (2, [0, 0], FOUR, [40, 32], "w9", ""),
+    (2, [0, 0], FOUR, [15, 10], "tops-bare", ""),
     (2, [0, 0], FOUR, [0, 0], "w1-cut", ""),
     (2, [0, 0], FOUR, [35, 28], "w1-fields", ""),
     // lookup
@@ -138,8 +144,17 @@ const CALL_CASES: &[CallCase] = &[
     (3, [7, 0], FOUR, [0, 0], "w1", "w1"),
     (3, [0, 7], FOUR, [0, 0], "w1", "w1"),
     (3, [0, 3], FOUR, [0, 0], "w1", "w8"),
+    (3, [3, 3], FOUR, [0, 0], "w1", "w8"),
+    (3, [0, 4], FOUR, [0, 0], "w1", "w8"),
+    (3, [4, 0], FOUR, [0, 0], "w1", "w8"),
     (3, [0, 3], FOUR, [0, 0], "w9", "w9"),
     (3, [0, 7], FOUR, [0, 0], "w9", "w9"),
+    (3, [7, 7], FOUR, [0, 0], "w9", "w9"),
+    (3, [4, 1], FOUR, [0, 0], "tops", "tops"),
+    (3, [4, 1], FOUR, [0, 0], "tops", "tops-bare"),
+    (3, [2, 0], FOUR, [0, 0], "tops", "tops-bare"),
+    (3, [0, 4], FOUR, [0, 0], "tops", "tops-bare"),
+    (3, [4, 4], FOUR, [0, 0], "tops", "tops-bare"),
     (3, [0, 3], FOUR, [0, 0], "w1", "w1-cut"),
     (3, [0, 3], FOUR, [0, 0], "w1", "w1-stray"),
     (3, [65, 0], FOUR, [0, 0], "w10-bare", "w10-over"),
@@ -150,6 +165,11 @@ const CALL_CASES: &[CallCase] = &[
     (4, [0, 3], FOUR, [0, 13], "w1", "w1"),
     (4, [0, 7], FOUR, [0, 14], "w1", "w1"),
     (4, [0, 3], FOUR, [0, 14], "w1", "w8"),
+    (4, [0, 4], FOUR, [0, 14], "w1", "w8"),
+    (4, [0, 7], FOUR, [0, 16], "w9", "w9"),
+    (4, [0, 1], FOUR, [0, 10], "tops", "tops"),
+    (4, [0, 1], FOUR, [0, 10], "tops", "tops-bare"),
+    (4, [0, 4], FOUR, [0, 10], "tops", "tops-bare"),
     (4, [0, 3], FOUR, [0, 13], "w1", "w1-cut"),
     (4, [0, 3], FOUR, [0, 13], "w1", "w1-stray"),
     (4, [0, 3], FOUR, [0, 14], "w1", "w1-stray"),
@@ -161,6 +181,9 @@ const CALL_CASES: &[CallCase] = &[
     (5, [6, 0], FOUR, [0, 0], "w1", "w1"),
     (5, [7, 0], FOUR, [0, 0], "w1", "w1"),
     (5, [0, 0], FOUR, [0, 0], "w1", "w8"),
+    (5, [4, 0], FOUR, [0, 0], "w1", "w8"),
+    (5, [1, 0], FOUR, [0, 0], "tops", "tops-bare"),
+    (5, [4, 0], FOUR, [0, 0], "tops", "tops-bare"),
     (5, [0, 0], FOUR, [0, 0], "w1", "w1-cut"),
     (5, [0, 0], FOUR, [0, 0], "w1", "w1-stray"),
     (5, [0, 0], FOUR, [0, 0], "w10-bare", "w10-over"),
@@ -192,13 +215,16 @@ fn call_cases(data: &Path) -> io::Result<Vec<u8>> {
     Ok(input)
 }
 
-/// The used part of a store: a built-in catalogue's, classified, or a faulty
-/// variant of it; none where there is no such catalogue.
+/// The used part of a store: a built-in catalogue's, classified, also without its
+/// axioms, or a faulty variant of it; none where there is no such catalogue.
 fn classified(name: &str) -> Vec<u8> {
     let (of, fault) = name.split_once('-').unwrap_or((name, ""));
-    let Some(known) = examples::named(of) else {
+    let Some(mut known) = examples::named(of) else {
         return vec![];
     };
+    if fault == "bare" {
+        known = known.bare();
+    }
     let (_, mut store) = calls::classified(&known.bytes()).expect("a built-in catalogue");
     let last = store.len() - 1;
     match fault {
@@ -212,11 +238,13 @@ fn classified(name: &str) -> Vec<u8> {
     store
 }
 
-/// The bytes of a catalogue: a faulty variant of `w1`, `w10` without its
-/// axioms, a built-in one, or `NAME.bin` in the folder.
+/// The bytes of a catalogue: a faulty variant of `w1`, a built-in one, also
+/// without its axioms (`NAME-bare`), or `NAME.bin` in the folder.
 pub(crate) fn catalogue(data: &Path, name: &str) -> io::Result<Vec<u8>> {
     let mut w1 = examples::w1();
-    match (name, examples::named(name)) {
+    let bare = name.strip_suffix("-bare").and_then(examples::named);
+    let known = examples::named(name).or(bare.map(|known| known.bare()));
+    match (name, known) {
         ("w1-cut", _) => Ok(w1.bytes()[..19].to_vec()),
         ("w1-unsorted", _) => {
             w1.axioms.swap(1, 2);
@@ -225,14 +253,6 @@ pub(crate) fn catalogue(data: &Path, name: &str) -> io::Result<Vec<u8>> {
         ("w1-fields", _) => {
             w1.concepts[5] = Concept::Existential(3, 2);
             Ok(w1.bytes())
-        }
-        ("w10-bare", _) => {
-            let w10 = examples::w10();
-            Ok(Catalogue {
-                axioms: vec![],
-                ..w10
-            }
-            .bytes())
         }
         (_, Some(known)) => Ok(known.bytes()),
         (_, None) => fs::read(data.join(name).with_extension("bin")),

@@ -100,13 +100,18 @@ pub fn input(data: &Path) -> io::Result<Vec<u8>> {
         Ok::<_, io::Error>((bytes, catalogue))
     };
     // Right lists, with just what they ask for, and with more.
-    for name in ["w1", "w6", "w7", "example4", "self-axiom", "tiny-0"] {
+    let names = ["w1", "w6", "w7", "example4", "self-axiom", "tops", "tiny-0"];
+    for name in names {
         let (bytes_of, catalogue) = read(name)?;
         let calls = out_and_in(&catalogue);
         let lent = enough(&catalogue, calls.len());
         case(&mut input, lent, &bytes_of, &bytes(&calls));
         case(&mut input, lent.map(|n| n + 11), &bytes_of, &bytes(&calls));
     }
+    // W8, and its first axiom.
+    let (w8, catalogue) = read("w8")?;
+    let calls = bytes(&[AFRESH, add(0, 4), withdraw(0, 4)]);
+    case(&mut input, enough(&catalogue, 3), &w8, &calls);
     let (small, catalogue) = read("small-1")?;
     for count in [30, 63] {
         let calls = bytes(&any_calls(&catalogue, count));

@@ -2,7 +2,7 @@
 //! one, and changes no buffer.
 
 use reference::calls;
-use reference::catalogue::Refusal;
+use reference::catalogue::{Concept, Refusal};
 use reference::examples;
 use std::collections::BTreeSet;
 
@@ -105,10 +105,17 @@ fn catalogue_checks_come_first() {
     }
 }
 
-/// Buffers for the catalogue with 65 concepts and 4,096 axioms, in which every
-/// question from `from` on is answered no, and those before it yes.
+/// The catalogue with 65 concepts and 4,096 axioms; the last concept is a top.
+fn full_catalogue() -> Vec<u8> {
+    let mut catalogue = examples::w10();
+    catalogue.concepts[64] = Concept::Top;
+    catalogue.bytes()
+}
+
+/// Buffers for that catalogue, in which every question from `from` on is answered
+/// no, and those before it yes.
 fn failing_from(from: usize, call: &str, classified: &[u8]) -> Lent {
-    let catalogue = examples::w10().bytes();
+    let catalogue = full_catalogue();
     let mut store = classified.to_vec();
     let wrong = |question: usize| usize::from(from <= question);
     if from <= 14 {
@@ -118,7 +125,7 @@ fn failing_from(from: usize, call: &str, classified: &[u8]) -> Lent {
         store[2 * 65 * 9 - 1] |= 128;
     }
     store.truncate(2 * 65 * 9 - wrong(10));
-    // Concept 64 is on no side of an axiom; all pairs below 64 are in force.
+    // The top is on no side of an axiom; all pairs below 64 are in force.
     let (first, second) = match (from, call) {
         (..=15, _) => (64, 65),
         (16, "add") => (0, 0),
@@ -142,7 +149,7 @@ fn failing_from(from: usize, call: &str, classified: &[u8]) -> Lent {
 /// Questions 10 to 20.
 #[test]
 fn other_checks_in_order() {
-    let catalogue = examples::w10().bytes();
+    let catalogue = full_catalogue();
     let (_, classified) = calls::classified(&catalogue).expect("an accepted catalogue");
     for call in CALLS {
         let mut seen = BTreeSet::new();

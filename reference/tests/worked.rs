@@ -141,26 +141,76 @@ fn w7_a_cycle_does_not_hold_itself_up() {
     let (mut lent, counts) = Buffers::new(&examples::w7(), 0);
     assert_eq!(counts, Counts { pairs: 7, links: 0 });
     let changed = Changed {
-        removed: 3,
+        removed: 2,
         returned: 0,
         gained: 0,
         touched: 1,
     };
     assert_eq!(lent.withdraw(0, 1), Ok(changed));
     assert_eq!(lent.list[..2], [0, 0]);
-    assert_eq!(lent.marks(3, 6), 4);
+    assert_eq!(lent.marks(3, 6), 5);
+    assert_eq!(lent.store[3], 1);
 }
 
 #[test]
 fn w8_no_axioms() {
     let (lent, counts) = Buffers::new(&examples::w8(), 0);
-    assert_eq!(counts, Counts { pairs: 0, links: 0 });
-    assert!(lent.store.iter().all(|&byte| byte == 0));
+    assert_eq!(counts, Counts { pairs: 4, links: 0 });
+    assert_eq!(lent.store[7..14], [1, 2, 4, 8, 0, 0, 0]);
+    assert_eq!((lent.marks(0, 7), lent.marks(14, 35)), (0, 0));
     for c in 0..7 {
         for d in 0..7 {
-            assert_eq!(lent.lookup(c, d), Err(refusal(19)));
+            let atomic = c < 4 && d < 4;
+            let answer = if atomic { Ok(c == d) } else { Err(refusal(19)) };
+            assert_eq!(lent.lookup(c, d), answer);
         }
     }
+}
+
+/// A kind without axioms: its listing and its row; then its first axiom.
+#[test]
+fn w8_a_kind_without_axioms() {
+    let (mut lent, _) = Buffers::new(&examples::w8(), 0);
+    let Buffers {
+        catalogue,
+        store,
+        list,
+        ..
+    } = &mut lent;
+    assert_eq!(calls::listing(catalogue, 2, store, list), Ok(1));
+    assert_eq!(list[..4], [2, 0, FILL, FILL]);
+    assert_eq!(calls::listing(catalogue, 4, store, list), Err(refusal(19)));
+    let row = calls::row(catalogue, 2, store).expect("an accepted call");
+    assert_eq!((row.offset, row.bytes), (9, &[4][..]));
+    assert_eq!(calls::row(catalogue, 4, store), Err(refusal(19)));
+
+    let changed = Changed {
+        removed: 0,
+        returned: 0,
+        gained: 4,
+        touched: 2,
+    };
+    assert_eq!(lent.add(0, 4), Ok(changed));
+    assert_eq!(lent.list[..4], [0, 0, 4, 0]);
+}
+
+/// A top occurs by an axiom; then every atomic lies under it.
+#[test]
+fn a_top_without_axioms() {
+    let (mut lent, counts) = Buffers::new(&examples::tops().bare(), 0);
+    assert_eq!(counts, Counts { pairs: 2, links: 0 });
+    assert_eq!(lent.lookup(4, 4), Ok(true));
+    assert_eq!(lent.lookup(4, 1), Err(refusal(19)));
+    let changed = Changed {
+        removed: 0,
+        returned: 0,
+        gained: 3,
+        touched: 3,
+    };
+    assert_eq!(lent.add(0, 1), Ok(changed));
+    assert_eq!(lent.list[..6], [0, 0, 1, 0, 4, 0]);
+    assert_eq!(lent.lookup(4, 1), Ok(true));
+    assert_eq!(lent.lookup(4, 2), Err(refusal(19)));
 }
 
 #[test]
@@ -191,7 +241,7 @@ fn w10_at_most_4096_axioms() {
     assert_eq!(
         counts,
         Counts {
-            pairs: 4096,
+            pairs: 4097,
             links: 0
         }
     );
@@ -297,6 +347,25 @@ fn a_self_axiom() {
         touched: 2,
     };
     assert_eq!(lent.withdraw(1, 1), Ok(changed));
+}
+
+/// An atomic's own pair is over-deleted by its own axiom, and returns without it.
+#[test]
+fn an_own_pair_returns() {
+    let catalogue = Catalogue {
+        axioms: vec![(1, 1)],
+        ..examples::w7()
+    };
+    let (mut lent, counts) = Buffers::new(&catalogue, 0);
+    assert_eq!(counts.pairs, 3);
+    let changed = Changed {
+        removed: 1,
+        returned: 1,
+        gained: 0,
+        touched: 1,
+    };
+    assert_eq!(lent.withdraw(1, 1), Ok(changed));
+    assert_eq!(lent.store[3..6], [1, 2, 4]);
 }
 
 /// Every built-in catalogue passes its checks.

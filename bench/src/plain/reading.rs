@@ -125,7 +125,7 @@ fn count_axioms(shape: Shape, store: &[u8]) -> Result<usize, Refusal> {
     Ok(count)
 }
 
-/// The concepts that occur by the axioms in force.
+/// Atomic records, and the concepts that occur by the axioms in force.
 fn occurring(shape: Shape, catalogue: &[u8], store: &[u8]) -> [u8; MAX_WIDTH] {
     let Shape { n, width, .. } = shape;
     let mut marks = [0; MAX_WIDTH];
@@ -141,7 +141,9 @@ fn occurring(shape: Shape, catalogue: &[u8], store: &[u8]) -> [u8; MAX_WIDTH] {
     let records = catalogue[HEADER_LENGTH..HEADER_LENGTH + 6 * n].chunks_exact(6);
     for (i, record) in records.enumerate().rev() {
         let kind = word(record, 0);
-        if kind >= 2 && has(&marks, i) {
+        if kind == 0 {
+            put(&mut marks, i);
+        } else if kind >= 2 && has(&marks, i) {
             put(&mut marks, word(record, 4));
             if kind == 2 {
                 put(&mut marks, word(record, 2));

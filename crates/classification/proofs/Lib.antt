@@ -1,7 +1,7 @@
 pub mod Checks
 pub mod Unique
 pub mod DemandTwo
-pub mod FromNothing
+pub mod WithoutAxioms
 pub mod AxiomTable
 pub mod Filled
 pub mod Putting

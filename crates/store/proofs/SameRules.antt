@@ -13,7 +13,7 @@ use Rattle.derivation.specs.Systems.{by}
 use Rattle.structure.specs.Parts.{Part, first-conjunct, second-conjunct, filler}
 use Rattle.structure.specs.Reach.{Reach, here, up}
 use Rattle.rules.specs.Axioms.{Axioms, InRange}
-use Rattle.rules.specs.Occurrence.{Marking, Occurs, left-side, right-side, part, occurs}
+use Rattle.rules.specs.Occurrence.{Marking, Occurs, atomic, left-side, right-side, part, occurs}
 use Rattle.rules.specs.Rules.{Expression, pair, link, Inference, rule1, rule2, rule3, rule4-first, rule4-second, rule5, rule6, rule7, rule8, premise, conclusion, Allows, Derived, Closure}
 use Rattle.rules.proofs.Occurrence.{occurs-below, exact-unique, occurs-exact}
 use Rattle.rules.proofs.Rules.{Kind, allows-rule1, allows-rule2, allows-rule3, allows-rule4-first, allows-rule4-second, allows-rule5, allows-rule6, allows-rule7, allows-rule8}
@@ -58,13 +58,14 @@ module _ (b b' : List ℕ) (m : SameRecords b b') where
   part-same {i} l (second-conjunct e) = subst (Part b' i) (m .second-same i l) (second-conjunct (m .kind-same i l ∙ e))
   part-same {i} l (filler e) = subst (Part b' i) (m .second-same i l) (filler (m .kind-same i l ∙ e))
 
+  kind-there : (k x : ℕ) → Kind b k x → Kind b' k x
+  kind-there k x h = (subst (λ n. x < n) (sym (m .concepts-same)) (h .0), m .kind-same x (h .0) ∙ h .1)
+
   occurs-there : (F : Axioms) → WellFormed b → InRange b F → {c : ℕ} → Occurs b F c → Occurs b' F c
+  occurs-there F wf range (atomic {c} l k) = let h = kind-there 0 c (l, k) in atomic (h .0) (h .1)
   occurs-there F wf range (left-side f) = left-side f
   occurs-there F wf range (right-side f) = right-side f
   occurs-there F wf range (part {i} o p) = part (occurs-there F wf range o) (part-same (occurs-below b F wf range i o) p)
-
-  kind-there : (k x : ℕ) → Kind b k x → Kind b' k x
-  kind-there k x h = (subst (λ n. x < n) (sym (m .concepts-same)) (h .0), m .kind-same x (h .0) ∙ h .1)
 
   range-there : (F : Axioms) → InRange b F → InRange b' F
   range-there F range c d f = let r = range c d f in (subst (λ n. c < n) (sym (m .concepts-same)) (r .0), subst (λ n. d < n) (sym (m .concepts-same)) (r .1))

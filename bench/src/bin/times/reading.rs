@@ -126,7 +126,8 @@ fn cases(bytes: &[u8]) -> Vec<Case> {
         }));
     }
     cases.push(lookup("refused by 15", 15, &|_| {}));
-    // The last concept is part of none: without its axioms it does not occur.
+    // The last concept is a composite and part of none: without its axioms it does
+    // not occur.
     cases.push(lookup("refused by 19", 19, &|store| {
         let clear = |row: &mut [u8]| row[(n - 1) / 8] &= !(1 << ((n - 1) % 8));
         let (before, last) = store[..n * width].split_at_mut((n - 1) * width);
