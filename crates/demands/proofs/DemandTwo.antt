@@ -2,11 +2,8 @@
 -- are the catalogue's own.
 use Prim.Native.Nat.{ℕ}
 use mathlib.Core.Path.{_≡_, sym, ap, subst, _∙_}
-use mathlib.Core.Logic.{_⊎_, inl, inr}
 use mathlib.Core.List.{List}
 use Rattle.rules.specs.Axioms.{Axioms}
-use Rattle.rules.specs.Occurrence.{Occurs}
-use Rattle.rules.proofs.Occurrence.{occurs-below}
 use Rattle.store.specs.Written.{written}
 use Rattle.store.proofs.WrittenBack.{written-back}
 use Rattle.classification.proofs.Outcomes.{answer-outcome}
@@ -15,11 +12,10 @@ use Rattle.writing.specs.declared.Wrote.{Wrote}
 use Rattle.writing.proofs.FreshWritten.{writes-long, writes-short}
 use Rattle.lookups.specs.Answers.{lookedUp}
 use Rattle.lookups.specs.Meaning.{LookupMeans}
-use Rattle.lookups.specs.declared.pairs.Looked.{Looked}
-use Rattle.lookups.specs.declared.pairs.Looked.the-variants.{Yes, No, Refused}
-use Rattle.lookups.proofs.DemandLookup.{lookup-means}
+use Rattle.lookups.proofs.DemandLookup.{lookup-means, occurring-answered}
 use Rattle.lookups.proofs.DemandEntries.{listing-finds}
 use Rattle.lookups.proofs.DemandRow.{row-means}
+use Rattle.lookups.proofs.DemandAtomic.{atomic-means}
 use Rattle.demands.specs.WriteBack.{WritesOut, CallsThenWriteBack}
 use Rattle.demands.specs.DemandTwo.{Meant, DemandTwo}
 use Rattle.demands.proofs.FreshStores.{FreshStore, classify-leaves}
@@ -28,19 +24,6 @@ use Rattle.demands.proofs.AfterCalls.{after-calls}
 module _ (b : List ℕ) (F : Axioms) (store : List ℕ) (u : FreshStore b F store) where
   means : (c d : ℕ) → LookupMeans b F c d (lookedUp b c d store)
   means c d = lookup-means b F store (u .catalogue) (u .range) (u .few) (u .fresh) c d
-
-  answered : (c d : ℕ) → Occurs b F c → Occurs b F d → (lookedUp b c d store ≡ Yes) ⊎ (lookedUp b c d store ≡ No)
-  answered c d o p = go (means c d .one-of)
-    where
-      r : Looked
-      r = lookedUp b c d store
-
-      go : (r ≡ Yes) ⊎ ((r ≡ No) ⊎ ((r ≡ Refused 19 0) ⊎ (r ≡ Refused 15 0))) → (r ≡ Yes) ⊎ (r ≡ No)
-      go (inl e) = inl e
-      go (inr (inl e)) = inr e
-      go (inr (inr (inl e))) = absurd (means c d .absent .0 e .2 (o, p))
-      go (inr (inr (inr e))) =
-          absurd (means c d .outside .0 e (occurs-below b _ (u .well-formed) (u .range) c o, occurs-below b _ (u .well-formed) (u .range) d p))
 
   writes-out : (output : List ℕ) (answer : Wrote) (output' : List ℕ) → Writes b store output answer output' → WritesOut (written b F) output answer output'
   writes-out output answer output' w =
@@ -56,13 +39,14 @@ module _ (b : List ℕ) (F : Axioms) (store : List ℕ) (u : FreshStore b F stor
         holds = u .fresh .set;
         yes-means = λ c d o p. (λ e. means c d .yes-means .0 e .2, λ n. means c d .yes-means .1 (o, p, n));
         no-means = λ c d o p. (λ e. means c d .no-means .0 e .2, λ n. means c d .no-means .1 (o, p, n));
-        answers = answered;
+        answers = λ c d. occurring-answered b F store (u .catalogue) (u .range) (u .few) (u .fresh) c d;
         lookups = λ c d r e. rw e (means c d);
         listings = λ d list r after f. listing-finds b F store (u .catalogue) (u .range) (u .few) (u .fresh) d list r after f;
         rows = λ c lent part r e h a.
             let v = subst (FreshStore b F) (sym e) u in
             row-means b F lent (v .catalogue) (v .range) (v .few) (v .fresh) c part r h a;
         writes = writes-out;
+        atomics = atomic-means b F store (u .catalogue) (u .range) (u .few) (u .fresh);
       }
 
 pub demand-two : DemandTwo

@@ -21,6 +21,7 @@ use Rattle.lookups.specs.Answers.{lookedUp}
 use Rattle.lookups.specs.Listings.{kindsUnder, Lists}
 use Rattle.lookups.specs.Rows.{rowAnswer, HandsOut}
 use Rattle.lookups.specs.Meaning.{LookupMeans, ListingFinds, RowMeans}
+use Rattle.lookups.specs.Atomic.{AtomicMeans}
 use Rattle.lookups.specs.declared.pairs.Looked.{Looked}
 use Rattle.lookups.specs.declared.pairs.Looked.the-variants.{Yes, No}
 use Rattle.lookups.specs.declared.kinds.Listed.{Listed}
@@ -46,6 +47,8 @@ pub record Meant (b : List ℕ) (F : ℕ → ℕ → Bool) (store : List ℕ) : 
   -- The bits of a row handed out say the same.
   pub rows : (c : ℕ) (lent part : RefT (List ℕ)) (r : Handed) → now lent ≡ store → HandsOut b c lent part → r ≡ rowAnswer b c (now lent)
       → RowMeans b F c r (now part)
+  -- Every atomic kind occurs: its yes and no mean what they say, a listing under it has it, and 19 is left for tops and composites (document 02, Two).
+  pub atomics : AtomicMeans b F store
   -- Write gives the catalogue with these axioms.
   pub writes : (output : List ℕ) (r : Wrote) (output' : List ℕ) → Writes b store output r output' → WritesOut (written b F) output r output'
 

@@ -3,7 +3,7 @@ use Prim.Native.Nat.{ℕ, _≤_, _<_}
 use native.Mathlib.Omega.{arith}
 use mathlib.Core.Path.{_≡_, refl, sym, ap, _∙_}
 use mathlib.Core.Bool.{Bool, true, false}
-use mathlib.Core.Logic.{_↔_, inl, inr}
+use mathlib.Core.Logic.{_↔_, _⊎_, inl, inr}
 use mathlib.Core.List.{List, [], _∷_}
 use lib.Dec.{ltb}
 use lib.ListN.{length}
@@ -22,7 +22,6 @@ use Rattle.rules.specs.Rules.{pair}
 use Rattle.rules.specs.Models.{Entails, Refuted}
 use Rattle.rules.proofs.Occurrence.{occurs-exact, occurs-below}
 use Rattle.rules.proofs.DemandTwo.{demand-two-closure}
-use Rattle.rules.proofs.NoAxioms.{none-occurs}
 use Rattle.layout.specs.Parts.{held}
 use Rattle.store.specs.Written.{axiomCount}
 use Rattle.store.specs.Fresh.{Fresh}
@@ -153,6 +152,15 @@ module _ (b : List ℕ) (F : Axioms) (store : List ℕ) (catalogue : checked b �
       (λ out.
       outside-means c d (lookedUp b c d store) (looked-refused b c d store (asks ∙ ask-no 15 0 _ out)) (λ l. not-both (below-names c d .1 l) out))
 
-  -- Without axioms every lookup of two concepts gives 19 (document 01, W8).
-  pub no-axioms-absent : ((c d : ℕ) → ¬ (F c d ≡ true)) → (c d : ℕ) → c < concepts b → d < concepts b → lookedUp b c d store ≡ Refused 19 0
-  no-axioms-absent empty c d lc ld = lookup-means c d .absent .1 (lc, ld, λ (o, _). none-occurs b F empty c o)
+  -- Two concepts that occur are answered.
+  pub occurring-answered : (c d : ℕ) → Occurs b F c → Occurs b F d → (lookedUp b c d store ≡ Yes) ⊎ (lookedUp b c d store ≡ No)
+  occurring-answered c d o p = go (lookup-means c d .one-of)
+    where
+      r : Looked
+      r = lookedUp b c d store
+
+      go : (r ≡ Yes) ⊎ ((r ≡ No) ⊎ ((r ≡ Refused 19 0) ⊎ (r ≡ Refused 15 0))) → (r ≡ Yes) ⊎ (r ≡ No)
+      go (inl e) = inl e
+      go (inr (inl e)) = inr e
+      go (inr (inr (inl e))) = absurd (lookup-means c d .absent .0 e .2 (o, p))
+      go (inr (inr (inr e))) = absurd (lookup-means c d .outside .0 e (occurs-below b F wf range c o, occurs-below b F wf range d p))

@@ -40,10 +40,10 @@ use Rattle.lookups.proofs.DemandLookup.{read-asks, meant}
 
 -- ---- two answers are not one
 
-row-not-refused : {r : Handed} {offset size number at : ℕ} → r ≡ Row offset size → r ≡ Refused number at → ⊥
+pub row-not-refused : {r : Handed} {offset size number at : ℕ} → r ≡ Row offset size → r ≡ Refused number at → ⊥
 row-not-refused e f = let z : _≡_ {A = ℕ} 0 1 = cc in omega arith
 
-one-number : {r : Handed} → r ≡ Refused 19 0 → r ≡ Refused 15 0 → ⊥
+pub one-number : {r : Handed} → r ≡ Refused 19 0 → r ≡ Refused 15 0 → ⊥
 one-number e f = let z : _≡_ {A = ℕ} 19 15 = cc in omega arith
 
 empty-clear : {part : List ℕ} → part ≡ [] → (d : ℕ) → bit part d ≡ false

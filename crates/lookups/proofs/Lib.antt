@@ -6,4 +6,5 @@ pub mod DemandLookup
 pub mod DemandListing
 pub mod DemandEntries
 pub mod DemandRow
+pub mod DemandAtomic
 pub mod Refusals

@@ -3,3 +3,4 @@ pub mod Answers
 pub mod Listings
 pub mod Rows
 pub mod Meaning
+pub mod Atomic
