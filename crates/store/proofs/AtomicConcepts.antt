@@ -42,7 +42,7 @@ module _ (n : ℕ) where
   unfolding atomicConcepts
   zero-word i j e l = ap (word (atomicConcepts n)) e ∙ word-second (atomicHeader n) (replicate (6 * n) 0) 20 i (header-long n) ∙ zeros (6 * n) i l
 
-  zero-record : (i : ℕ) → i < concepts (atomicConcepts n) → (kind (atomicConcepts n) i ≡ 0) × (first (atomicConcepts n) i ≡ 0) × (second (atomicConcepts n) i ≡ 0)
+  pub zero-record : (i : ℕ) → i < concepts (atomicConcepts n) → (kind (atomicConcepts n) i ≡ 0) × (first (atomicConcepts n) i ≡ 0) × (second (atomicConcepts n) i ≡ 0)
   unfolding kind first second
   zero-record i l =
       let h : i < n = omega (arith, atomic-count) in

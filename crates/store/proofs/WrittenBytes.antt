@@ -24,7 +24,7 @@ Below n xs = (i : ℕ) → i < length xs → getD xs i 0 < n
 bytes-below : (xs : List ℕ) → Below 256 xs → Bytes xs
 bytes-below xs h i = elim (decLt i (length xs)) [ yes l ↦ h i l | no g ↦ subst (λ x. x < 256) (sym (List·getD-eq-default xs 0 (omega arith))) (lit< tt) ]
 
-bytes-append : (xs ys : List ℕ) → Bytes xs → Bytes ys → Bytes (xs ++ ys)
+pub bytes-append : (xs ys : List ℕ) → Bytes xs → Bytes ys → Bytes (xs ++ ys)
 bytes-append xs ys bx by i =
     elim (decLt i (length xs)) [
       | yes l ↦ subst (λ x. x < 256) (sym (List·getD-append xs ys 0 i l)) (bx i)

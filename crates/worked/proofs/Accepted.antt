@@ -7,7 +7,7 @@ use Rattle.catalogue.specs.Outcome.{accepted, ask, askEach, firstFault, firstFa
 use Rattle.catalogue.specs.Checks.{headerFits, totalRight, countsInLimits, offsetsRight, kindRight, fieldsAsKind, fieldsRight, inclusionRight, compositionRight, sidesRight, above, risingRight, recordChecks, catalogueChecks, checked}
 use Rattle.catalogue.specs.WellFormed.{WellFormed}
 use Rattle.catalogue.proofs.Accepted.{accepted-well-formed}
-use Rattle.worked.specs.Catalogues.{w7, example1, example4}
+use Rattle.worked.specs.Catalogues.{w7, w8, example1, example4}
 
 pub w7-accepted : checked w7 ≡ accepted
 unfolding word total concepts roles inclusions compositions axioms conceptsAt inclusionsAt compositionsAt axiomsAt kind first second within around role1 role2 result left right ask askEach firstFault firstFaultFrom headerFits totalRight countsInLimits offsetsRight kindRight fieldsAsKind fieldsRight inclusionRight compositionRight sidesRight above risingRight recordChecks catalogueChecks checked w7
@@ -15,6 +15,13 @@ w7-accepted = refl
 
 pub w7-well-formed : WellFormed w7
 w7-well-formed = accepted-well-formed w7-accepted
+
+pub w8-accepted : checked w8 ≡ accepted
+unfolding w7-accepted w8
+w8-accepted = refl
+
+pub w8-well-formed : WellFormed w8
+w8-well-formed = accepted-well-formed w8-accepted
 
 example1-accepted : checked example1 ≡ accepted
 unfolding w7-accepted example1

@@ -92,9 +92,9 @@ w6-withdraw =
     (subst (λ (n : ℕ). EditGives Delete w1 1 5 axioms6 axioms6' (workUsed w1) (2 * n) (Done 10 1 0 4) (0 ∷ 0 ∷ 1 ∷ 0 ∷ 4 ∷ 0 ∷ 5 ∷ 0 ∷ [])) seven
     (withdraw-gives w1 1 5 axioms6 10 1 0 (0 ∷ 1 ∷ 4 ∷ 5 ∷ []) [] w1-accepted (omega (arith, w6-axiom-count)) (omega (arith, seven)) (omega (arith, seven)) still15 w6-change rises1))
 
-pub w7-withdraw : EditGives Delete w7 0 1 axioms7 axioms7' 3 6 (Done 3 0 0 1) (0 ∷ 0 ∷ [])
+pub w7-withdraw : EditGives Delete w7 0 1 axioms7 axioms7' 3 6 (Done 2 0 0 1) (0 ∷ 0 ∷ [])
 unfolding bytesOf
 w7-withdraw =
-    subst (λ (k : ℕ). EditGives Delete w7 0 1 axioms7 axioms7' k 6 (Done 3 0 0 1) (0 ∷ 0 ∷ [])) (w7-lengths .1)
-    (subst (λ (n : ℕ). EditGives Delete w7 0 1 axioms7 axioms7' (workUsed w7) (2 * n) (Done 3 0 0 1) (0 ∷ 0 ∷ [])) three
-    (withdraw-gives w7 0 1 axioms7 3 0 0 (0 ∷ []) [] w7-accepted (omega (arith, w7-axiom-count)) (omega (arith, three)) (omega (arith, three)) in-force01 w7-change rises7))
+    subst (λ (k : ℕ). EditGives Delete w7 0 1 axioms7 axioms7' k 6 (Done 2 0 0 1) (0 ∷ 0 ∷ [])) (w7-lengths .1)
+    (subst (λ (n : ℕ). EditGives Delete w7 0 1 axioms7 axioms7' (workUsed w7) (2 * n) (Done 2 0 0 1) (0 ∷ 0 ∷ [])) three
+    (withdraw-gives w7 0 1 axioms7 2 0 0 (0 ∷ []) [] w7-accepted (omega (arith, w7-axiom-count)) (omega (arith, three)) (omega (arith, three)) in-force01 w7-change rises7))

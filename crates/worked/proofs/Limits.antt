@@ -1,15 +1,21 @@
 -- The most concepts: 512 atomic ones, accepted and classified, and one more.
-use Prim.Native.Nat.{ℕ}
-use mathlib.Core.Path.{_≡_, refl, subst}
+use Prim.Native.Nat.{ℕ, zero, suc, _<_}
+use native.Mathlib.Omega.{arith}
+use mathlib.Core.Path.{_≡_, refl, ap, subst, _∙_}
+use mathlib.Core.Bool.{Bool, true}
 use lib.Dec.{lit≤}
-use lib.ListN.{replicate}
 use Rattle.catalogue.specs.Words.{word, bytesOf}
 use Rattle.catalogue.specs.Header.{concepts, roles, axioms}
 use Rattle.catalogue.specs.Outcome.{accepted, refused}
 use Rattle.catalogue.specs.Checks.{checked}
+use Rattle.rows.specs.Bits.{countBelow}
+use Rattle.rows.proofs.Counting.{count-pass}
+use Rattle.rules.specs.Occurrence.{hasKind}
+use Rattle.rules.proofs.Rules.{kind-exact}
 use Rattle.layout.specs.Parts.{width, used, workUsed}
 use Rattle.store.specs.Examples.{atomicHeader, atomicConcepts}
-use Rattle.store.proofs.AtomicConcepts.{atomic-accepted, atomic-too-many}
+use Rattle.store.proofs.AtomicConcepts.{atomic-count, zero-record, atomic-accepted, atomic-too-many}
+use Rattle.worked.specs.Stores.{atomicStore}
 use Rattle.worked.specs.Calls.{ClassifyGives}
 use Rattle.worked.proofs.W8.{w8-classify}
 
@@ -31,8 +37,23 @@ no-axioms : axioms (atomicConcepts 512) ≡ 0
 unfolding atomicConcepts atomicHeader bytesOf word axioms
 no-axioms = refl
 
-pub most-classified : ClassifyGives (atomicConcepts 512) 65536 32768 0 0 (replicate 65536 0)
+-- Where each passes, all are counted.
+count-all : (test : ℕ → Bool) (k : ℕ) → ((j : ℕ) → j < k → test j ≡ true) → countBelow test k ≡ k
+unfolding countBelow
+count-all test zero pass = refl
+count-all test (suc k) pass = count-pass test k (pass k (omega arith)) ∙ ap suc (count-all test k (λ j l. pass j (omega arith)))
+
+abbrev atoms : ℕ
+atoms = countBelow (hasKind (atomicConcepts 512) 0) (concepts (atomicConcepts 512))
+
+all-atomic : atoms ≡ 512
+all-atomic =
+    count-all (hasKind (atomicConcepts 512) 0) (concepts (atomicConcepts 512)) (λ i l. kind-exact (atomicConcepts 512) 0 i .1 (l, zero-record 512 i l .0))
+    ∙ atomic-count 512
+
+pub most-classified : ClassifyGives (atomicConcepts 512) 65536 32768 512 0 (atomicStore (atomicConcepts 512))
 most-classified =
-    subst (λ (k : ℕ). ClassifyGives (atomicConcepts 512) 65536 k 0 0 (replicate 65536 0)) most-work
-    (subst (λ (k : ℕ). ClassifyGives (atomicConcepts 512) k (workUsed (atomicConcepts 512)) 0 0 (replicate k 0)) most-used
-    (w8-classify (atomicConcepts 512) most-accepted no-axioms))
+    subst (λ (k : ℕ). ClassifyGives (atomicConcepts 512) 65536 32768 k 0 (atomicStore (atomicConcepts 512))) all-atomic
+    (subst (λ (k : ℕ). ClassifyGives (atomicConcepts 512) 65536 k atoms 0 (atomicStore (atomicConcepts 512))) most-work
+    (subst (λ (k : ℕ). ClassifyGives (atomicConcepts 512) k (workUsed (atomicConcepts 512)) atoms 0 (atomicStore (atomicConcepts 512))) most-used
+    (w8-classify (atomicConcepts 512) most-accepted no-axioms)))

@@ -1,4 +1,4 @@
--- W7: two pairs hold each other up, and go all the same.
+-- W7: two pairs hold each other up, and go all the same; the pair of 0 with itself stays.
 use Prim.Native.Nat.{ℕ}
 use native.Mathlib.Omega.{arith}
 use mathlib.Core.Path.{_≡_, refl, subst, sym, _∙_}
@@ -81,7 +81,7 @@ w7-classify =
 
 -- ---- the change
 
-w7-change-removed : removedOf w7 axioms7 axioms7' ≡ 3
+w7-change-removed : removedOf w7 axioms7 axioms7' ≡ 2
 unfolding removedOf w7
 w7-change-removed = refl
 
@@ -101,11 +101,11 @@ w7-change-gaining : gainingOf w7 axioms7 axioms7' ≡ []
 unfolding gainingOf w7
 w7-change-gaining = refl
 
-pub w7-change : Changed w7 axioms7 axioms7' 3 0 0 (0 ∷ []) []
+pub w7-change : Changed w7 axioms7 axioms7' 2 0 0 (0 ∷ []) []
 w7-change =
-    changed w7 axioms7 axioms7' w7-well-formed range7 range7' 3 0 0 (0 ∷ []) [] w7-change-removed w7-change-returned w7-change-gained w7-change-broken w7-change-gaining
+    changed w7 axioms7 axioms7' w7-well-formed range7 range7' 2 0 0 (0 ∷ []) [] w7-change-removed w7-change-returned w7-change-gained w7-change-broken w7-change-gaining
 
-w7-left-pairs : pairsOf w7 axioms7' ≡ 4
+w7-left-pairs : pairsOf w7 axioms7' ≡ 5
 unfolding pairsOf w7
 w7-left-pairs = refl
 
@@ -113,9 +113,9 @@ w7-left-links : linksOf w7 axioms7' ≡ 0
 unfolding linksOf w7
 w7-left-links = refl
 
-w7-left-rows : rowsOf w7 axioms7' ≡ 0 ∷ 6 ∷ 6 ∷ []
+w7-left-rows : rowsOf w7 axioms7' ≡ 1 ∷ 6 ∷ 6 ∷ []
 unfolding rowsOf w7
 w7-left-rows = refl
 
-pub w7-left : Classified w7 axioms7' 4 0 (0 ∷ 6 ∷ 6 ∷ [])
-w7-left = classified w7 axioms7' w7-well-formed range7' 4 0 (0 ∷ 6 ∷ 6 ∷ []) w7-left-pairs w7-left-links w7-left-rows
+pub w7-left : Classified w7 axioms7' 5 0 (1 ∷ 6 ∷ 6 ∷ [])
+w7-left = classified w7 axioms7' w7-well-formed range7' 5 0 (1 ∷ 6 ∷ 6 ∷ []) w7-left-pairs w7-left-links w7-left-rows

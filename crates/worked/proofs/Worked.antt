@@ -2,16 +2,14 @@
 use Prim.Native.Nat.{ℕ}
 use mathlib.Core.Path.{_≡_, refl, subst}
 use mathlib.Core.Logic.{_↔_}
-use mathlib.Core.Bool.{true, false≢true}
+use mathlib.Core.Bool.{true}
 use mathlib.Core.List.{List}
 use lib.ListN.{take}
 use Rattle.catalogue.specs.Examples.{w1}
 use Rattle.catalogue.proofs.Examples.{w1-offsets, w1-accepted, nineteen-bytes, most-concepts}
-use Rattle.rules.specs.Axioms.{none}
 use Rattle.rules.specs.Occurrence.{left-side, right-side}
 use Rattle.rules.specs.Rules.{Expression, Closure}
 use Rattle.rules.specs.Changes.{NewSet}
-use Rattle.rules.proofs.NoAxioms.{none-occurs, none-derived}
 use Rattle.store.specs.Fresh.{Fresh}
 use Rattle.store.proofs.Examples.{w1-lengths, w9-set, w9-none}
 use Rattle.worked.specs.Stores.{w1Store}
@@ -24,7 +22,7 @@ use Rattle.worked.proofs.W1.{w1-classified, w1-fresh, w1-rows, w1-front
 use Rattle.worked.proofs.W3.{w3-change, w3-left, w3-fresh, w3-front, w5-change}
 use Rattle.worked.proofs.W6.{w6-change}
 use Rattle.worked.proofs.W7.{w7-classified, w7-fresh, w7-rows, w7-classify, w7-change, w7-left}
-use Rattle.worked.proofs.W8.{w8-classify, w8-lookup}
+use Rattle.worked.proofs.W8.{w8-derived, w8-occur, w8-classify, w8-itself, w8-others, w8-absent, w8-w1, w8-change, w8-add}
 use Rattle.worked.proofs.Limits.{most-accepted, most-classified, too-many-refused}
 use Rattle.worked.proofs.W10.{w10-met-in-force, w10-met-new}
 use Rattle.worked.proofs.Reading.{w2-yes, w2-no, w2-lookups, w1-row, w1-listing3, w1-listing6, w1-write, w4-absent, w4-lookups, w9-lookup}
@@ -82,10 +80,15 @@ worked = record {
   W7-classify = w7-classify;
   W7-rows = w7-rows;
   W7-fresh = w7-fresh;
-  W8 = λ b wf. none-derived b none (λ c d. false≢true) wf;
-  W8-occur = λ b. none-occurs b none (λ c d. false≢true);
+  W8 = w8-derived;
+  W8-occur = w8-occur;
   W8-classify = w8-classify;
-  W8-lookup = w8-lookup;
+  W8-itself = w8-itself;
+  W8-others = w8-others;
+  W8-absent = w8-absent;
+  W8-W1 = w8-w1;
+  W8-change = w8-change;
+  W8-add = w8-add;
   W9 = w9-set;
   W9-lookup = w9-lookup;
   W9-none = w9-none;

@@ -12,6 +12,15 @@ w7 =
     0 ∷ 0 ∷ 0 ∷ 0 ∷ 0 ∷ 0 ∷ 0 ∷ 0 ∷ 0 ∷
     0 ∷ 1 ∷ 1 ∷ 2 ∷ 2 ∷ 1 ∷ [])
 
+-- W8: W1's concepts and its composition, and no axioms.
+unfoldable pub w8 : List ℕ
+unfolding bytesOf
+w8 =
+    bytesOf (
+    68 ∷ 7 ∷ 3 ∷ 0 ∷ 1 ∷ 0 ∷ 20 ∷ 62 ∷ 62 ∷ 68 ∷
+    0 ∷ 0 ∷ 0 ∷ 0 ∷ 0 ∷ 0 ∷ 0 ∷ 0 ∷ 0 ∷ 0 ∷ 0 ∷ 0 ∷ 3 ∷ 0 ∷ 1 ∷ 3 ∷ 1 ∷ 2 ∷ 3 ∷ 2 ∷ 2 ∷
+    0 ∷ 1 ∷ 2 ∷ [])
+
 -- Document 001, Example 1: atomic A 0, B 1, C 2; roles R 0, H 1, S 2, R within H; 3 ∃R.B, 4 ∃H.B, 5 ∃S.A, 6 ∃S.C; axioms A⊑∃R.B,
 -- B⊑∃S.A, ∃H.B⊑C, ∃S.C⊑C.
 unfoldable pub example1 : List ℕ

@@ -1,7 +1,12 @@
 -- Stores of the papers' examples, byte by byte (document 01, Examples): rows of axioms, of pairs, and of links by first concept and role.
-use Prim.Native.Nat.{ℕ}
+use Prim.Native.Nat.{ℕ, zero, suc, _*_}
 use mathlib.Core.List.{List, [], _∷_, _++_}
+use lib.Dec.{eqb}
 use lib.ListN.{replicate}
+use Rattle.catalogue.specs.Header.{concepts}
+use Rattle.catalogue.specs.Records.{kind}
+use Rattle.rows.specs.Bits.{setIf, place}
+use Rattle.layout.specs.Parts.{width, workUsed}
 use Rattle.edits.specs.Edits.{Lent, lend}
 
 -- W1's store, classified afresh.
@@ -21,6 +26,22 @@ w3Store =
 -- W7's store: no roles, and so no rows of links.
 unfoldable pub w7Store : List ℕ
 w7Store = 2 ∷ 4 ∷ 2 ∷ 7 ∷ 6 ∷ 6 ∷ []
+
+-- The store of a catalogue without axioms: clear rows of axioms, and a block where bit c of pair row c is set for each atomic record c. In the block so far,
+-- for the records below a number.
+unfoldable pub atomicBlock : List ℕ → ℕ → List ℕ
+atomicBlock b zero = replicate (workUsed b) 0
+atomicBlock b (suc c) = setIf (eqb (kind b c) 0) (atomicBlock b c) (place (width b) c c)
+
+unfoldable pub atomicStore : List ℕ → List ℕ
+atomicStore b = replicate (concepts b * width b) 0 ++ atomicBlock b (concepts b)
+
+-- W8's store.
+unfoldable pub w8Store : List ℕ
+w8Store =
+    0 ∷ 0 ∷ 0 ∷ 0 ∷ 0 ∷ 0 ∷ 0 ∷
+    1 ∷ 2 ∷ 4 ∷ 8 ∷ 0 ∷ 0 ∷ 0 ∷
+    0 ∷ 0 ∷ 0 ∷ 0 ∷ 0 ∷ 0 ∷ 0 ∷ 0 ∷ 0 ∷ 0 ∷ 0 ∷ 0 ∷ 0 ∷ 0 ∷ 0 ∷ 0 ∷ 0 ∷ 0 ∷ 0 ∷ 0 ∷ 0 ∷ []
 
 -- W10's store, for 512 concepts and no roles: the first 8 rows of axioms, of 64 bytes each, are full, and so 8 · 512 axioms are in force; every other row is
 -- clear.

@@ -1,13 +1,13 @@
 -- The worked table (document 01, Examples; document 001, Examples 1, 3 and 4): catalogues, sets, counts, touched concepts, and stores, about
 -- the definitions; and what classify, add, withdraw, lookup, row, listing and write answer. What a call answers is said of every exit that its contract allows. What
--- is read of W1 to W4, of every store classified afresh; of W8, of every store whose used part is zero; of W9, of W1's store with a spare bit set.
+-- is read of W1 to W4, of every store classified afresh; of W8, of every store with the used part of one without axioms; of W9, of W1's store with a spare bit set.
 use Prim.Native.Nat.{ℕ, _+_, _*_, _<_}
 use mathlib.Core.Bool.{true, false}
 use mathlib.Core.Path.{_≡_}
 use mathlib.Core.Logic.{_↔_}
 use mathlib.Core.List.{List, [], _∷_, map}
 use lib.ListN.{length, take, drop, replicate}
-use Rattle.rows.specs.Bits.{setBit}
+use Rattle.rows.specs.Bits.{setBit, countBelow}
 use Rattle.catalogue.specs.WellFormed.{WellFormed}
 use Rattle.catalogue.specs.Header.{concepts, axioms, conceptsAt, inclusionsAt, compositionsAt, axiomsAt}
 use Rattle.catalogue.specs.Outcome.{accepted, refused}
@@ -15,8 +15,8 @@ use Rattle.catalogue.specs.Checks.{checked}
 use Rattle.catalogue.specs.Examples.{w1, headerAlone}
 use Rattle.derivation.specs.declared.Mode.the-variants.{Add, Delete}
 use Rattle.rules.specs.Axioms.{Axioms, catalogueAxioms, none, added, withdrawn}
-use Rattle.rules.specs.Occurrence.{Occurs}
-use Rattle.rules.specs.Rules.{Expression, pair, Closure}
+use Rattle.rules.specs.Occurrence.{Occurs, hasKind}
+use Rattle.rules.specs.Rules.{Expression, pair, Closure, AtomicPair}
 use Rattle.rules.specs.Changes.{OverDeleted, NewSet}
 use Rattle.layout.specs.Parts.{used, workUsed, spareClear}
 use Rattle.store.specs.Fresh.{Fresh}
@@ -26,10 +26,11 @@ use Rattle.store.specs.Examples.{atomicConcepts}
 use Rattle.edits.specs.declared.Changed.the-variants.{Done}
 use Rattle.lookups.specs.Answers.{lookedUp}
 use Rattle.lookups.specs.Rows.{rowAnswer}
+use Rattle.lookups.specs.Atomic.{Atomic}
 use Rattle.lookups.specs.declared.pairs.Looked.the-variants.{Yes, No, Refused}
 use Rattle.lookups.specs.declared.handing.Handed.the-variants.{Row}
-use Rattle.worked.specs.Catalogues.{w7, example1, example4}
-use Rattle.worked.specs.Stores.{w1Store, w3Store, w7Store, fullLent}
+use Rattle.worked.specs.Catalogues.{w7, w8, example1, example4}
+use Rattle.worked.specs.Stores.{w1Store, w3Store, w7Store, w8Store, atomicStore, fullLent}
 use Rattle.worked.specs.Calls.{ClassifyGives, ClassifyRefuses, EditGives, FullRefuses, MeetsFull, ListingGives, WriteGives}
 use Rattle.worked.specs.Entries.{Rows, Classified, Changed}
 
@@ -55,6 +56,10 @@ axioms7 = catalogueAxioms w7
 
 abbrev pub axioms7' : Axioms
 axioms7' = withdrawn axioms7 0 1
+
+-- W8 with (0,4) added.
+abbrev pub axioms8 : Axioms
+axioms8 = added none 0 4
 
 -- Example 1, and Example 3's deletion of ∃S.C⊑C.
 abbrev pub example1Axioms : Axioms
@@ -114,23 +119,32 @@ pub record Worked : Type 0 where
   pub W6 : Changed w1 axioms6 axioms6' 10 1 0 (0 ∷ 1 ∷ 4 ∷ 5 ∷ []) []
   pub W6-withdraw : EditGives Delete w1 1 5 axioms6 axioms6' 28 14 (Done 10 1 0 4) (0 ∷ 0 ∷ 1 ∷ 0 ∷ 4 ∷ 0 ∷ 5 ∷ 0 ∷ [])
   -- ---- W7
-  -- W7: 7 pairs; withdraw (0,1): removed 3, touched 0, 4 pairs left.
+  -- W7: 7 pairs; withdraw (0,1): removed 2, returned 0, touched 0, 5 pairs left: 0 keeps its own.
   pub W7 : Classified w7 axioms7 7 0 (7 ∷ 6 ∷ 6 ∷ [])
-  pub W7-change : Changed w7 axioms7 axioms7' 3 0 0 (0 ∷ []) []
-  pub W7-withdraw : EditGives Delete w7 0 1 axioms7 axioms7' 3 6 (Done 3 0 0 1) (0 ∷ 0 ∷ [])
-  pub W7-left : Classified w7 axioms7' 4 0 (0 ∷ 6 ∷ 6 ∷ [])
+  pub W7-change : Changed w7 axioms7 axioms7' 2 0 0 (0 ∷ []) []
+  pub W7-withdraw : EditGives Delete w7 0 1 axioms7 axioms7' 3 6 (Done 2 0 0 1) (0 ∷ 0 ∷ [])
+  pub W7-left : Classified w7 axioms7' 5 0 (1 ∷ 6 ∷ 6 ∷ [])
   -- Classify answers 7 pairs and no link, and leaves W7's store of 6 bytes: rows of axioms, and then the pair rows 7, 6, 6.
   pub W7-classify : ClassifyGives w7 6 3 7 0 w7Store
   pub W7-rows : take 3 (drop 3 w7Store) ≡ 7 ∷ 6 ∷ 6 ∷ []
   pub W7-fresh : Fresh w7 axioms7 w7Store
   -- ---- W8
-  -- W8: no axioms: empty sets, and nothing occurs.
-  pub W8 : (b : List ℕ) → WellFormed b → (e : Expression) → ¬ (Closure b none e)
-  pub W8-occur : (b : List ℕ) (c : ℕ) → ¬ (Occurs b none c)
-  -- Classify of an accepted catalogue without axioms answers no pair and no link, and the used part is zero.
-  pub W8-classify : (b : List ℕ) → checked b ≡ accepted → axioms b ≡ 0 → ClassifyGives b (used b) (workUsed b) 0 0 (replicate (used b) 0)
-  -- Every lookup of two concepts in such a store gives 19.
-  pub W8-lookup : (b store : List ℕ) → checked b ≡ accepted → take (used b) store ≡ replicate (used b) 0 → (c d : ℕ) → c < concepts b → d < concepts b → lookedUp b c d store ≡ Refused 19 0
+  -- W8: no axioms: the atomic records occur and no others, and each lies under itself alone.
+  pub W8 : (b : List ℕ) → WellFormed b → (e : Expression) → Closure b none e ↔ AtomicPair b e
+  pub W8-occur : (b : List ℕ) (c : ℕ) → Occurs b none c ↔ Atomic b c
+  -- Classify of an accepted catalogue without axioms answers a pair for each atomic record and no link, and leaves these bytes in the used part.
+  pub W8-classify : (b : List ℕ) → checked b ≡ accepted → axioms b ≡ 0
+      → ClassifyGives b (used b) (workUsed b) (countBelow (hasKind b 0) (concepts b)) 0 (atomicStore b)
+  -- Lookups in such a store: of atomic records yes on themselves and no otherwise; 19 where a top or a composite is named.
+  pub W8-itself : (b store : List ℕ) → checked b ≡ accepted → take (used b) store ≡ atomicStore b → (c : ℕ) → Atomic b c → lookedUp b c c store ≡ Yes
+  pub W8-others : (b store : List ℕ) → checked b ≡ accepted → take (used b) store ≡ atomicStore b
+      → (c d : ℕ) → Atomic b c → Atomic b d → ¬ (c ≡ d) → lookedUp b c d store ≡ No
+  pub W8-absent : (b store : List ℕ) → checked b ≡ accepted → take (used b) store ≡ atomicStore b
+      → (c d : ℕ) → c < concepts b → d < concepts b → ¬ (Atomic b c × Atomic b d) → lookedUp b c d store ≡ Refused 19 0
+  -- W1's concepts give 4 pairs; adding (0,4) to them gains 4, touched 0 and 4.
+  pub W8-W1 : ClassifyGives w8 35 28 4 0 w8Store
+  pub W8-change : Changed w8 none axioms8 0 0 4 [] (0 ∷ 4 ∷ [])
+  pub W8-add : EditGives Add w8 0 4 none axioms8 28 14 (Done 0 0 4 2) (0 ∷ 0 ∷ 4 ∷ 0 ∷ [])
   -- ---- W9, W10, and the limits
   -- W9: n = 7 with bit 7 of any row set: 13; n = 8: no spare bit, whatever the store.
   pub W9 : map (λ (r : ℕ). askSpare (spareClear w1 (setBit (replicate 35 0) (8 * r + 7))) accepted) (rising (λ (r : ℕ). true) 35) ≡ replicate 35 (refused 13 0)
@@ -142,12 +156,12 @@ pub record Worked : Type 0 where
   -- Both are met, with 512 atomic concepts and the first 8 rows of axioms full: (0,0) is in force, and (8,0) is new.
   pub W10-met-in-force : MeetsFull (atomicConcepts 512) 0 0 fullLent true 16
   pub W10-met-new : MeetsFull (atomicConcepts 512) 8 0 fullLent false 17
-  -- 19 bytes: 1. n 512 passes: a catalogue of 512 atomic concepts is accepted, whole, and classify of it, which has no axioms, answers no pair and no
+  -- 19 bytes: 1. n 512 passes: a catalogue of 512 atomic concepts is accepted, whole, and classify of it, which has no axioms, answers 512 pairs and no
   -- link; 513: 3. At every limit a header alone passes 3 too, and is refused by 4.
   pub bytes-19 : (b : List ℕ) → length b ≡ 19 → checked b ≡ refused 1 0
   pub bytes-19-classify : (b : List ℕ) → length b ≡ 19 → ClassifyRefuses b 1 0
   pub n-512 : checked (atomicConcepts 512) ≡ accepted
-  pub n-512-classify : ClassifyGives (atomicConcepts 512) 65536 32768 0 0 (replicate 65536 0)
+  pub n-512-classify : ClassifyGives (atomicConcepts 512) 65536 32768 512 0 (atomicStore (atomicConcepts 512))
   pub n-513 : checked (atomicConcepts 513) ≡ refused 3 0
   pub n-513-classify : ClassifyRefuses (atomicConcepts 513) 3 0
   pub limits : checked (headerAlone 512 16 64 64 4096) ≡ refused 4 0
