@@ -1,7 +1,7 @@
 -- Demand 2: of every store that is classified afresh, and so after an accepted classify and after every list of calls. Then write, where the axioms in force
 -- are the catalogue's own.
 use Prim.Native.Nat.{ℕ}
-use mathlib.Core.Path.{_≡_, sym, ap, subst, _∙_}
+use mathlib.Core.Path.{sym, ap, subst, _∙_}
 use mathlib.Core.List.{List}
 use Rattle.rules.specs.Axioms.{Axioms}
 use Rattle.store.specs.Written.{written}

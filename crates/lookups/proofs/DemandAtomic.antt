@@ -1,12 +1,10 @@
 -- What the answers say of atomic kinds, and where 19 is left: from a store classified afresh (document 02, Two).
 use Prim.Native.Nat.{ℕ, _≤_, _<_}
-use mathlib.Core.Path.{_≡_, sym, _∙_}
-use mathlib.Core.Bool.{true, false}
+use mathlib.Core.Path.{_≡_, _∙_}
 use mathlib.Core.Logic.{_↔_, inl, inr, ⊎-elim}
 use mathlib.Core.List.{List, [], _∷_}
 use lib.Dec.{ltb}
 use lib.ListN.{length}
-use borrow.Author.Tests.{ltb-true, lt-ltb}
 use Rattle.catalogue.specs.Header.{concepts}
 use Rattle.catalogue.specs.Outcome.{accepted}
 use Rattle.catalogue.specs.Checks.{checked}
@@ -20,7 +18,6 @@ use Rattle.rules.proofs.Occurrence.{occurs-exact}
 use Rattle.store.specs.Written.{axiomCount}
 use Rattle.store.specs.Fresh.{Fresh}
 use Rattle.store.specs.Checks.{every, askNumbers}
-use Rattle.store.proofs.Checks.{every-one}
 use Rattle.lookups.specs.Checks.{askOccurs}
 use Rattle.lookups.specs.Rows.{rowAnswer}
 use Rattle.lookups.specs.Listings.{kindsUnder}
@@ -28,7 +25,7 @@ use Rattle.lookups.specs.Meaning.{LookupMeans}
 use Rattle.lookups.specs.Answers.{lookedUp}
 use Rattle.lookups.specs.Atomic.{Atomic, Absent, AtomicMeans}
 use Rattle.lookups.specs.declared.kinds.Listed.the-variants.{Count}
-use Rattle.lookups.specs.declared.handing.Handed.the-variants.{Row, Refused}
+use Rattle.lookups.specs.declared.handing.Handed.the-variants.{Refused}
 use Rattle.lookups.proofs.Answered.{row-accepted, row-refused}
 use Rattle.lookups.proofs.DemandLookup.{read-asks, lookup-means, occurring-answered}
 use Rattle.lookups.proofs.DemandListing.{below-means, occur-means}

@@ -2,7 +2,7 @@
 use Prim.Native.Nat.{ℕ, zero, suc, _+_, _*_, _≤_, _<_}
 use native.Mathlib.Omega.{arith}
 use mathlib.Core.Path.{_≡_, refl, sym, ap, subst, fun-ext, _∙_}
-use mathlib.Core.Logic.{_↔_, Iff·trans, Iff·symm, ⊎-elim}
+use mathlib.Core.Logic.{_↔_, Iff·trans, Iff·symm}
 use mathlib.Core.Bool.{Bool, true, false, false≢true}
 use mathlib.Core.List.{List, [], _∷_}
 use lib.Dec.{eqb}
@@ -16,7 +16,7 @@ use Rattle.catalogue.specs.Outcome.{accepted}
 use Rattle.catalogue.specs.Checks.{checked}
 use Rattle.catalogue.specs.WellFormed.{WellFormed}
 use Rattle.catalogue.proofs.Accepted.{accepted-well-formed}
-use Rattle.rows.specs.Bits.{Bytes, bit, place, setBit, setIf, countBelow}
+use Rattle.rows.specs.Bits.{Bytes, place, setBit, setIf, countBelow}
 use Rattle.rows.proofs.Bits.{bit-zeros, bytes-zero, length-setBit, bytes-setBit}
 use Rattle.rows.proofs.Counting.{count-none}
 use Rattle.booleans.proofs.Booleans.{not-both, not-true-false}
