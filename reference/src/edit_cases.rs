@@ -201,8 +201,24 @@ impl Subject {
     /// is as at first.
     fn one_by_one(&self, script: &mut Script) {
         self.classify(script, &self.catalogue.bare().bytes());
+        self.there_and_back(script, &self.catalogue.axioms);
+    }
+
+    /// The first axiom, and then all of them, on a store from before atomic records
+    /// occurred from the start: without axioms it was all zeros, which is wrong now.
+    fn store_from_before(&self, script: &mut Script) {
+        let axioms = &self.catalogue.axioms;
+        for count in [1, axioms.len()] {
+            script.fill(165, 0, STORE_LENGTH);
+            script.fill(0, 0, self.lengths()[0]);
+            self.there_and_back(script, &axioms[..count]);
+        }
+    }
+
+    /// Axioms added one by one, and withdrawn one by one.
+    fn there_and_back(&self, script: &mut Script, axioms: &[Axiom]) {
         for call in [ADD, WITHDRAW] {
-            for &axiom in &self.catalogue.axioms {
+            for &axiom in axioms {
                 script.call(call, &self.bytes, axiom, 0, self.lengths());
             }
         }
@@ -372,5 +388,8 @@ pub fn input(data: &Path) -> io::Result<Vec<u8>> {
     large.wrong_stores(&mut script);
     at_the_limit(&mut script, data)?;
     others(&mut script, data)?;
+    for name in ["w1", "tops"] {
+        Subject::new(inputs::catalogue(data, name)?).store_from_before(&mut script);
+    }
     Ok(script.input())
 }

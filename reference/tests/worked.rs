@@ -213,6 +213,54 @@ fn a_top_without_axioms() {
     assert_eq!(lent.lookup(4, 2), Err(refusal(19)));
 }
 
+/// Without axioms a store was all zeros before atomic records occurred from the start.
+/// Now it is wrong: a lookup says a false no, and it must be classified again.
+#[test]
+fn a_store_from_before() {
+    let (mut lent, _) = Buffers::new(&examples::w8(), 0);
+    lent.store.fill(0);
+    let added = Changed {
+        removed: 0,
+        returned: 0,
+        gained: 2,
+        touched: 1,
+    };
+    assert_eq!(lent.add(0, 4), Ok(added));
+    assert_eq!(lent.list[..2], [4, 0]);
+    assert_eq!(lent.lookup(0, 4), Ok(false));
+    let again = Catalogue {
+        axioms: vec![(0, 4)],
+        ..examples::w8()
+    };
+    let (again, _) = Buffers::new(&again, 0);
+    assert_eq!(lent.store[..7], again.store[..7]);
+    assert_eq!(again.lookup(0, 4), Ok(true));
+
+    // A withdrawal repairs the partitions that it breaks: here all that lacked a pair.
+    let (mut lent, _) = Buffers::new(&examples::tops().bare(), 0);
+    let fresh = lent.store.clone();
+    lent.store.fill(0);
+    let added = Changed {
+        removed: 0,
+        returned: 0,
+        gained: 3,
+        touched: 3,
+    };
+    assert_eq!(lent.add(0, 1), Ok(added));
+    assert_eq!(lent.store[5..10], [2, 2, 0, 0, 2]);
+    assert_eq!(lent.lookup(4, 1), Ok(true));
+    assert_eq!(lent.lookup(4, 4), Ok(false));
+    let withdrawn = Changed {
+        removed: 3,
+        returned: 0,
+        gained: 2,
+        touched: 3,
+    };
+    assert_eq!(lent.withdraw(0, 1), Ok(withdrawn));
+    assert_eq!(lent.store[5..10], [1, 0, 0, 0, 16]);
+    assert_eq!(lent.store, fresh);
+}
+
 #[test]
 fn w9_spare_bits() {
     let (mut seven, _) = Buffers::new(&examples::w1(), 1);

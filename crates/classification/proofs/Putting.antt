@@ -15,7 +15,7 @@ use Rattle.lending.proofs.Copies.{copied-all}
 use Rattle.classification.specs.AxiomRows.{MarksAxioms, PutsAxioms}
 
 -- A table of zeros holds no axiom.
-clear-table : (s : Shape) (k c d : ℕ) → table s (replicate k 0) c d ≡ false
+pub clear-table : (s : Shape) (k c d : ℕ) → table s (replicate k 0) c d ≡ false
 unfolding table
 clear-table s k c d =
     ap (λ (x : Bool). ltb c (s .concepts) && (ltb d (8 * s .width) && x)) (bit-zeros k (place (s .width) c d)) ∙ nothing (ltb c (s .concepts)) (ltb d (8 * s .width))

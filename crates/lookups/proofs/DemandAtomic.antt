@@ -1,7 +1,7 @@
 -- What the answers say of atomic kinds, and where 19 is left: from a store classified afresh (document 02, Two).
 use Prim.Native.Nat.{ℕ, _≤_, _<_}
 use mathlib.Core.Path.{_≡_, _∙_}
-use mathlib.Core.Logic.{_↔_, inl, inr, ⊎-elim}
+use mathlib.Core.Logic.{_↔_, _⊎_, inl, inr, ⊎-elim}
 use mathlib.Core.List.{List, [], _∷_}
 use lib.Dec.{ltb}
 use lib.ListN.{length}
@@ -23,7 +23,7 @@ use Rattle.lookups.specs.Rows.{rowAnswer}
 use Rattle.lookups.specs.Listings.{kindsUnder}
 use Rattle.lookups.specs.Meaning.{LookupMeans}
 use Rattle.lookups.specs.Answers.{lookedUp}
-use Rattle.lookups.specs.Atomic.{Atomic, Absent, AtomicMeans}
+use Rattle.lookups.specs.Atomic.{Absent, AtomicMeans}
 use Rattle.lookups.specs.declared.kinds.Listed.the-variants.{Count}
 use Rattle.lookups.specs.declared.handing.Handed.the-variants.{Refused}
 use Rattle.lookups.proofs.Answered.{row-accepted, row-refused}
@@ -39,12 +39,9 @@ module _ (b : List ℕ) (F : Axioms) (store : List ℕ) (catalogue : checked b �
   means : (c d : ℕ) → LookupMeans b F c d (lookedUp b c d store)
   means = lookup-means b F store catalogue range few fresh
 
-  kind-occurs : (c : ℕ) → Atomic b c → Occurs b F c
-  kind-occurs c a = atomic (a .0) (a .1)
-
   -- What does not occur is no atomic kind.
   missing : (c : ℕ) → c < concepts b → ¬ (Occurs b F c) → Absent b F c
-  missing c l out = (l, λ k. out (atomic l k), out)
+  missing c l out = (l, λ k. out (atomic (l, k)), out)
 
   row-missing : (c : ℕ) → (rowAnswer b c store ≡ Refused 19 0) ↔ Absent b F c
   unfolding askNumbers askOccurs
@@ -62,23 +59,26 @@ module _ (b : List ℕ) (F : Axioms) (store : List ℕ) (catalogue : checked b �
   pub atomic-means : AtomicMeans b F store
   atomic-means =
       record {
-        yes-means = λ c d x y. (λ e. means c d .yes-means .0 e .2, λ n. means c d .yes-means .1 (kind-occurs c x, kind-occurs d y, n));
-        no-means = λ c d x y. (λ e. means c d .no-means .0 e .2, λ n. means c d .no-means .1 (kind-occurs c x, kind-occurs d y, n));
-        answers = λ c d x y. occurring-answered b F store catalogue range few fresh c d (kind-occurs c x) (kind-occurs d y);
+        yes-means = λ c d x y. (λ e. means c d .yes-means .0 e .2, λ n. means c d .yes-means .1 (atomic x, atomic y, n));
+        no-means = λ c d x y. (λ e. means c d .no-means .0 e .2, λ n. means c d .no-means .1 (atomic x, atomic y, n));
+        answers = λ c d x y. occurring-answered b F store catalogue range few fresh c d (atomic x) (atomic y);
         lists-itself = λ d x list r after f long.
             let finds = listing-finds b F store catalogue range few fresh d list r after f in
-            let o = kind-occurs d x in
+            let o : Occurs b F d = atomic x in
             let k = length (kindsUnder b d store) in
             let counted : r ≡ Count k = finds .means .counts long o in
             let (i, l, e) = finds .entries k counted d .1 (x .1, o, λ m s y p h. h) in
             (k, counted, i, l, e);
-        lookup-absent = λ c d lc ld. (
+        lookup-absent = λ c d. (
           λ e.
-              let out = means c d .absent .0 e .2 in
+              let (lc, ld, out) = means c d .absent .0 e in
+              let which : Absent b F c ⊎ Absent b F d =
               by-bool (occurs b F c)
               (λ o. inr (missing d ld (λ p. out (occurs-exact b F wf range c .0 o, p))))
-              (λ n. inl (missing c lc (λ o. not-both (occurs-exact b F wf range c .1 o) n))),
-          λ a. means c d .absent .1 (lc, ld, λ (o, p). ⊎-elim (λ x. x .2 o) (λ y. y .2 p) a),
+              (λ n. inl (missing c lc (λ o. not-both (occurs-exact b F wf range c .1 o) n)))
+              in
+              (lc, ld, which),
+          λ (lc, ld, a). means c d .absent .1 (lc, ld, λ (o, p). ⊎-elim (λ x. x .2 o) (λ y. y .2 p) a),
         );
         listing-absent = λ d list r after f.
             let m = listing-finds b F store catalogue range few fresh d list r after f .means in

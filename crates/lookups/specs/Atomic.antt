@@ -8,7 +8,7 @@ use lib.ListN.{length}
 use Rattle.catalogue.specs.Header.{concepts}
 use Rattle.catalogue.specs.Records.{kind}
 use Rattle.catalogue.specs.Words.{word}
-use Rattle.rules.specs.Occurrence.{Occurs}
+use Rattle.rules.specs.Occurrence.{Atomic, Occurs}
 use Rattle.rules.specs.Models.{Entails, Refuted}
 use Rattle.lookups.specs.Answers.{lookedUp}
 use Rattle.lookups.specs.Listings.{Lists}
@@ -17,10 +17,6 @@ use Rattle.lookups.specs.declared.pairs.Looked.the-variants.{Yes, No, Re
 use Rattle.lookups.specs.declared.kinds.Listed.{Listed}
 use Rattle.lookups.specs.declared.kinds.Listed.the-variants as lists
 use Rattle.lookups.specs.declared.handing.Handed.the-variants as hands
-
--- Record c is an atomic kind.
-abbrev pub Atomic : List ℕ → ℕ → Type 0
-Atomic b c = (c < concepts b) × (kind b c ≡ 0)
 
 -- Record c is a top or a composite, and does not occur.
 abbrev pub Absent : List ℕ → (ℕ → ℕ → Bool) → ℕ → Type 0
@@ -36,7 +32,7 @@ pub record AtomicMeans (b : List ℕ) (F : ℕ → ℕ → Bool) (store : List �
   pub lists-itself : (d : ℕ) → Atomic b d → (list : List ℕ) (r : Listed) (after : List ℕ) → Lists b d store list r after → 2 * concepts b ≤ length list
       → (k : ℕ) × (r ≡ lists.Count k) × (i : ℕ) × (i < k) × (word after (2 * i) ≡ d)
   -- "19 and demand 1's refusal stay for those that don't occur": exactly where a top or a composite doesn't.
-  pub lookup-absent : (c d : ℕ) → c < concepts b → d < concepts b → (lookedUp b c d store ≡ Refused 19 0) ↔ (Absent b F c ⊎ Absent b F d)
+  pub lookup-absent : (c d : ℕ) → (lookedUp b c d store ≡ Refused 19 0) ↔ ((c < concepts b) × (d < concepts b) × (Absent b F c ⊎ Absent b F d))
   pub listing-absent : (d : ℕ) (list : List ℕ) (r : Listed) (after : List ℕ) → Lists b d store list r after
       → (r ≡ lists.Refused 19 0) ↔ ((2 * concepts b ≤ length list) × Absent b F d)
   pub row-absent : (c : ℕ) → (rowAnswer b c store ≡ hands.Refused 19 0) ↔ Absent b F c

@@ -64,6 +64,12 @@ count-up test a b l =
     subst (λ (n : ℕ). countBelow test a ≤ countBelow test n) whole
     (subst (λ (n : ℕ). countBelow test a ≤ n) (sym (count-add test a (b - a))) (omega arith))
 
+-- Where each passes, all are counted.
+pub count-all : (test : ℕ → Bool) (k : ℕ) → ((j : ℕ) → j < k → test j ≡ true) → countBelow test k ≡ k
+unfolding countBelow
+count-all test zero e = refl
+count-all test (suc k) e = count-pass test k (e k (le-refl (suc k))) ∙ ap suc (count-all test k (λ j l. e j (omega arith)))
+
 -- Numbers that fail add nothing.
 pub count-none : (test : ℕ → Bool) (k : ℕ) → ((j : ℕ) → j < k → test j ≡ false) → countBelow test k ≡ 0
 unfolding countBelow

@@ -62,7 +62,7 @@ module _ (b b' : List ℕ) (m : SameRecords b b') where
   kind-there k x h = (subst (λ n. x < n) (sym (m .concepts-same)) (h .0), m .kind-same x (h .0) ∙ h .1)
 
   occurs-there : (F : Axioms) → WellFormed b → InRange b F → {c : ℕ} → Occurs b F c → Occurs b' F c
-  occurs-there F wf range (atomic {c} l k) = let h = kind-there 0 c (l, k) in atomic (h .0) (h .1)
+  occurs-there F wf range (atomic {c} a) = atomic (kind-there 0 c a)
   occurs-there F wf range (left-side f) = left-side f
   occurs-there F wf range (right-side f) = right-side f
   occurs-there F wf range (part {i} o p) = part (occurs-there F wf range o) (part-same (occurs-below b F wf range i o) p)

@@ -1,15 +1,13 @@
 -- The most concepts: 512 atomic ones, accepted and classified, and one more.
-use Prim.Native.Nat.{ℕ, zero, suc, _<_}
-use native.Mathlib.Omega.{arith}
-use mathlib.Core.Path.{_≡_, refl, ap, subst, _∙_}
-use mathlib.Core.Bool.{Bool, true}
+use Prim.Native.Nat.{ℕ}
+use mathlib.Core.Path.{_≡_, refl, subst, _∙_}
 use lib.Dec.{lit≤}
 use Rattle.catalogue.specs.Words.{word, bytesOf}
 use Rattle.catalogue.specs.Header.{concepts, roles, axioms}
 use Rattle.catalogue.specs.Outcome.{accepted, refused}
 use Rattle.catalogue.specs.Checks.{checked}
 use Rattle.rows.specs.Bits.{countBelow}
-use Rattle.rows.proofs.Counting.{count-pass}
+use Rattle.rows.proofs.Counting.{count-all}
 use Rattle.rules.specs.Occurrence.{hasKind}
 use Rattle.rules.proofs.Rules.{kind-exact}
 use Rattle.layout.specs.Parts.{width, used, workUsed}
@@ -36,12 +34,6 @@ most-work = refl
 no-axioms : axioms (atomicConcepts 512) ≡ 0
 unfolding atomicConcepts atomicHeader bytesOf word axioms
 no-axioms = refl
-
--- Where each passes, all are counted.
-count-all : (test : ℕ → Bool) (k : ℕ) → ((j : ℕ) → j < k → test j ≡ true) → countBelow test k ≡ k
-unfolding countBelow
-count-all test zero pass = refl
-count-all test (suc k) pass = count-pass test k (pass k (omega arith)) ∙ ap suc (count-all test k (λ j l. pass j (omega arith)))
 
 abbrev atoms : ℕ
 atoms = countBelow (hasKind (atomicConcepts 512) 0) (concepts (atomicConcepts 512))

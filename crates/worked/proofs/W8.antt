@@ -10,42 +10,44 @@ use lib.ListN.{length, take, replicate, length-append, length-replicate, length-
 use lib.Seq.{take-all}
 use borrow.Author.Tests.{eq-eqb}
 use Rattle.catalogue.specs.Words.{word, bytesOf}
-use Rattle.catalogue.specs.Header.{concepts, roles, axioms}
+use Rattle.catalogue.specs.Header.{concepts, roles, axioms, axiomsAt}
 use Rattle.catalogue.specs.Records.{kind}
 use Rattle.catalogue.specs.Outcome.{accepted}
+use Rattle.catalogue.specs.Examples.{w1}
 use Rattle.catalogue.specs.Checks.{checked}
 use Rattle.catalogue.specs.WellFormed.{WellFormed}
 use Rattle.catalogue.proofs.Accepted.{accepted-well-formed}
 use Rattle.rows.specs.Bits.{Bytes, place, setBit, setIf, countBelow}
-use Rattle.rows.proofs.Bits.{bit-zeros, bytes-zero, length-setBit, bytes-setBit}
+use Rattle.rows.proofs.Bits.{bit-zeros, bytes-zero}
+use Rattle.rows.proofs.Puts.{length-setIf, bytes-setIf}
 use Rattle.rows.proofs.Counting.{count-none}
 use Rattle.booleans.proofs.Booleans.{not-both, not-true-false}
 use Rattle.derivation.specs.Finite.{some}
 use Rattle.derivation.specs.declared.Mode.the-variants.{Add}
 use Rattle.structure.specs.Marks.{MarksMore}
 use Rattle.rules.specs.Axioms.{Axioms, InRange, none, catalogueAxioms}
-use Rattle.rules.specs.Occurrence.{Occurs, atomic, hasKind}
+use Rattle.rules.specs.Occurrence.{Atomic, Occurs, atomic, hasKind}
 use Rattle.rules.specs.Rules.{Expression, fact, pair, Closure, AtomicPair}
 use Rattle.rules.specs.Counts.{Size, isPair, Pairs, Links}
 use Rattle.rules.proofs.Axioms.{catalogue-axioms-exact, added-in-range}
 use Rattle.rules.proofs.Bounds.{closure-bounded}
 use Rattle.rules.proofs.Counts.{size-same, empty-size}
 use Rattle.rules.proofs.NoAxioms.{atomic-occur, atomic-derived, atomic-size}
-use Rattle.layout.specs.Layout.{shapeOf, table, tableLength, blockLength, Shaped}
+use Rattle.layout.specs.Layout.{shapeOf, tableLength, blockLength, Shaped}
 use Rattle.layout.specs.Parts.{width, used, workUsed, held}
-use Rattle.layout.proofs.BlockRows.{table-elim}
 use Rattle.layout.proofs.StoreSizes.{table-long, work-is-block, used-split}
 use Rattle.occurrence.specs.Marking.{AtomicAt}
 use Rattle.occurrence.proofs.Atomic.{atomic-none, atomic-more}
-use Rattle.store.specs.Written.{numbered, axiomCount, rising}
+use Rattle.store.specs.Written.{rising, numbered, axiomCount, sidesOf, axiomRecords, setWord, written}
 use Rattle.store.specs.Fresh.{Fresh}
 use Rattle.store.proofs.Stored.{parts-marked, marked-used}
 use Rattle.store.proofs.WrittenBytes.{bytes-append}
-use Rattle.classification.proofs.WithoutAxioms.{diagonal, atomic-marks}
+use Rattle.classification.proofs.Putting.{clear-table}
+use Rattle.classification.proofs.WithoutAxioms.{on-diagonal, atomic-marks}
 use Rattle.edits.specs.declared.Changed.the-variants.{Done}
 use Rattle.edits.proofs.Members.{onList}
 use Rattle.lookups.specs.Answers.{lookedUp}
-use Rattle.lookups.specs.Atomic.{Atomic, AtomicMeans}
+use Rattle.lookups.specs.Atomic.{AtomicMeans}
 use Rattle.lookups.specs.declared.pairs.Looked.the-variants.{Yes, No, Refused}
 use Rattle.lookups.proofs.DemandLookup.{meant, lookup-means}
 use Rattle.lookups.proofs.DemandAtomic.{atomic-means}
@@ -74,29 +76,19 @@ pub w8-derived : (b : List ℕ) → WellFormed b → (e : Expression) → Closur
 w8-derived b wf = atomic-derived b none never wf
 
 pub w8-occur : (b : List ℕ) (c : ℕ) → Occurs b none c ↔ Atomic b c
-w8-occur b c = (atomic-occur b none never c, λ a. atomic (a .0) (a .1))
+w8-occur b c = (atomic-occur b none never c, atomic)
 
 -- ---- the store
-
-set-long : (t : Bool) (row : List ℕ) (i : ℕ) → length (setIf t row i) ≡ length row
-unfolding setIf
-set-long true row i = length-setBit row i
-set-long false row i = refl
-
-set-bytes : (t : Bool) (row : List ℕ) (i : ℕ) → Bytes row → Bytes (setIf t row i)
-unfolding setIf
-set-bytes true row i bytes = bytes-setBit row i bytes
-set-bytes false row i bytes = bytes
 
 block-long : (b : List ℕ) (k : ℕ) → length (atomicBlock b k) ≡ workUsed b
 unfolding atomicBlock
 block-long b zero = length-replicate {A = ℕ} (workUsed b) 0
-block-long b (suc c) = set-long (eqb (kind b c) 0) (atomicBlock b c) (place (width b) c c) ∙ block-long b c
+block-long b (suc c) = length-setIf (eqb (kind b c) 0) (atomicBlock b c) (place (width b) c c) ∙ block-long b c
 
 block-bytes : (b : List ℕ) (k : ℕ) → Bytes (atomicBlock b k)
 unfolding atomicBlock
 block-bytes b zero = bytes-zero (workUsed b)
-block-bytes b (suc c) = set-bytes (eqb (kind b c) 0) (atomicBlock b c) (place (width b) c c) (block-bytes b c)
+block-bytes b (suc c) = bytes-setIf (eqb (kind b c) 0) (atomicBlock b c) (place (width b) c c) (block-bytes b c)
 
 module _ (b : List ℕ) (wf : WellFormed b) where
   shaped : Shaped b (shapeOf b)
@@ -109,7 +101,7 @@ module _ (b : List ℕ) (wf : WellFormed b) where
   block-marks (suc c) l =
       subst (λ (k : ℕ). MarksMore (AtomicAt b (width b) k) (replicate (workUsed b) 0) (atomicBlock b (suc c))) (let next : c + 1 ≡ suc c = omega arith in next)
       (atomic-more b (width b) c (replicate (workUsed b) 0) (atomicBlock b c) (atomicBlock b (suc c)) (block-marks c (omega arith))
-      (diagonal b (shapeOf b) shaped (atomicBlock b c) (block-long b c ∙ work-is-block b) c l) refl)
+      (omega (arith, on-diagonal b (shapeOf b) shaped c l, block-long b c, work-is-block b)) refl)
 
   rows-long : length (replicate {A = ℕ} (concepts b * width b) 0) ≡ tableLength (shapeOf b)
   rows-long = length-replicate {A = ℕ} (concepts b * width b) 0 ∙ sym (table-long b)
@@ -117,16 +109,11 @@ module _ (b : List ℕ) (wf : WellFormed b) where
   set-at-block : length (atomicBlock b (concepts b)) ≡ blockLength (shapeOf b)
   set-at-block = block-long b (concepts b) ∙ work-is-block b
 
-  no-axiom : (c d : ℕ) → table (shapeOf b) (replicate (concepts b * width b) 0) c d ≡ false
-  no-axiom c d =
-      not-true-false (table (shapeOf b) (replicate (concepts b * width b) 0) c d)
-      (λ h. not-both (table-elim (shapeOf b) (replicate (concepts b * width b) 0) c d h .is-set) (bit-zeros (concepts b * width b) _))
-
-  store-fresh : Fresh b none (atomicStore b)
+  pub store-fresh : Fresh b none (atomicStore b)
   unfolding atomicStore shapeOf width
   store-fresh =
       parts-marked b (replicate (concepts b * width b) 0) (atomicBlock b (concepts b)) rows-long set-at-block none (Closure b none) (none-in-range b)
-      (closure-bounded b none wf (none-in-range b)) no-axiom
+      (closure-bounded b none wf (none-in-range b)) (clear-table (shapeOf b) (concepts b * width b))
       (λ e.
       Iff·trans
       (atomic-marks b (shapeOf b) shaped (replicate (workUsed b) 0) (atomicBlock b (concepts b)) (bit-zeros (workUsed b)) (block-marks (concepts b) (omega arith)) e)
@@ -151,7 +138,7 @@ module _ (b : List ℕ) (wf : WellFormed b) where
 pairs-are : (b : List ℕ) → WellFormed b → (e : Expression) → AtomicPair b e ↔ Pairs (Closure b none) e
 unfolding isPair
 pairs-are b wf (fact c g d) = (
-  λ a. (w8-derived b wf (fact c g d) .1 a, let (x, l, k, e) = a in let z : g ≡ 0 = cc in eq-eqb g 0 z),
+  λ a. (w8-derived b wf (fact c g d) .1 a, let (x, _, e) = a in let z : g ≡ 0 = cc in eq-eqb g 0 z),
   λ p. w8-derived b wf (fact c g d) .0 (p .0),
 )
 
@@ -189,13 +176,17 @@ module _ (b store : List ℕ) (catalogue : checked b ≡ accepted) (front : take
       means .no-means c d x y .1
       (meant b none store catalogue (none-in-range b) few fresh c d (w8-occur b c .1 x) (w8-occur b d .1 y) .1 .0
       (not-true-false (held b store (pair c d))
-      (λ h. let (z, l, k, e) = w8-derived b (accepted-well-formed catalogue) (pair c d) .0 (fresh .set (pair c d) .0 h) in apart (let p : c ≡ d = cc in p))))
+      (λ h. let (z, _, e) = w8-derived b (accepted-well-formed catalogue) (pair c d) .0 (fresh .set (pair c d) .0 h) in apart (let p : c ≡ d = cc in p))))
 
   pub w8-absent : (c d : ℕ) → c < concepts b → d < concepts b → ¬ (Atomic b c × Atomic b d) → lookedUp b c d store ≡ Refused 19 0
   w8-absent c d lc ld out =
       lookup-means b none store catalogue (none-in-range b) few fresh c d .absent .1 (lc, ld, λ (o, p). out (w8-occur b c .0 o, w8-occur b d .0 p))
 
 -- ---- W1's concepts
+
+pub w8-bytes : written w1 none ≡ w8
+unfolding w1 w8 word bytesOf concepts axioms axiomsAt countBelow numbered axiomCount rising sidesOf axiomRecords setWord written
+w8-bytes = refl
 
 w8-lengths : (used w8 ≡ 35) × (workUsed w8 ≡ 28)
 unfolding w8 word concepts roles width used workUsed

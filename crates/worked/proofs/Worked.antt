@@ -22,7 +22,7 @@ use Rattle.worked.proofs.W1.{w1-classified, w1-fresh, w1-rows, w1-front
 use Rattle.worked.proofs.W3.{w3-change, w3-left, w3-fresh, w3-front, w5-change}
 use Rattle.worked.proofs.W6.{w6-change}
 use Rattle.worked.proofs.W7.{w7-classified, w7-fresh, w7-rows, w7-classify, w7-change, w7-left}
-use Rattle.worked.proofs.W8.{w8-derived, w8-occur, w8-classify, w8-itself, w8-others, w8-absent, w8-w1, w8-change, w8-add}
+use Rattle.worked.proofs.W8.{w8-derived, w8-occur, store-fresh, w8-classify, w8-itself, w8-others, w8-absent, w8-bytes, w8-w1, w8-change, w8-add}
 use Rattle.worked.proofs.Limits.{most-accepted, most-classified, too-many-refused}
 use Rattle.worked.proofs.W10.{w10-met-in-force, w10-met-new}
 use Rattle.worked.proofs.Reading.{w2-yes, w2-no, w2-lookups, w1-row, w1-listing3, w1-listing6, w1-write, w4-absent, w4-lookups, w9-lookup}
@@ -83,9 +83,11 @@ worked = record {
   W8 = w8-derived;
   W8-occur = w8-occur;
   W8-classify = w8-classify;
+  W8-fresh = store-fresh;
   W8-itself = w8-itself;
   W8-others = w8-others;
   W8-absent = w8-absent;
+  W8-bytes = w8-bytes;
   W8-W1 = w8-w1;
   W8-change = w8-change;
   W8-add = w8-add;

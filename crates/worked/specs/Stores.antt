@@ -27,12 +27,12 @@ w3Store =
 unfoldable pub w7Store : List ℕ
 w7Store = 2 ∷ 4 ∷ 2 ∷ 7 ∷ 6 ∷ 6 ∷ []
 
--- The store of a catalogue without axioms: clear rows of axioms, and a block where bit c of pair row c is set for each atomic record c. In the block so far,
--- for the records below a number.
+-- A block in which bit c of pair row c is set for each atomic record c below a number, and no other bit.
 unfoldable pub atomicBlock : List ℕ → ℕ → List ℕ
 atomicBlock b zero = replicate (workUsed b) 0
 atomicBlock b (suc c) = setIf (eqb (kind b c) 0) (atomicBlock b c) (place (width b) c c)
 
+-- The store of a catalogue without axioms: clear rows of axioms, and that block for all records.
 unfoldable pub atomicStore : List ℕ → List ℕ
 atomicStore b = replicate (concepts b * width b) 0 ++ atomicBlock b (concepts b)
 

@@ -15,18 +15,17 @@ use Rattle.catalogue.specs.Checks.{checked}
 use Rattle.catalogue.specs.Examples.{w1, headerAlone}
 use Rattle.derivation.specs.declared.Mode.the-variants.{Add, Delete}
 use Rattle.rules.specs.Axioms.{Axioms, catalogueAxioms, none, added, withdrawn}
-use Rattle.rules.specs.Occurrence.{Occurs, hasKind}
+use Rattle.rules.specs.Occurrence.{Atomic, Occurs, hasKind}
 use Rattle.rules.specs.Rules.{Expression, pair, Closure, AtomicPair}
 use Rattle.rules.specs.Changes.{OverDeleted, NewSet}
 use Rattle.layout.specs.Parts.{used, workUsed, spareClear}
 use Rattle.store.specs.Fresh.{Fresh}
 use Rattle.store.specs.Checks.{askSpare}
-use Rattle.store.specs.Written.{rising}
+use Rattle.store.specs.Written.{rising, written}
 use Rattle.store.specs.Examples.{atomicConcepts}
 use Rattle.edits.specs.declared.Changed.the-variants.{Done}
 use Rattle.lookups.specs.Answers.{lookedUp}
 use Rattle.lookups.specs.Rows.{rowAnswer}
-use Rattle.lookups.specs.Atomic.{Atomic}
 use Rattle.lookups.specs.declared.pairs.Looked.the-variants.{Yes, No, Refused}
 use Rattle.lookups.specs.declared.handing.Handed.the-variants.{Row}
 use Rattle.worked.specs.Catalogues.{w7, w8, example1, example4}
@@ -132,16 +131,19 @@ pub record Worked : Type 0 where
   -- W8: no axioms: the atomic records occur and no others, and each lies under itself alone.
   pub W8 : (b : List ℕ) → WellFormed b → (e : Expression) → Closure b none e ↔ AtomicPair b e
   pub W8-occur : (b : List ℕ) (c : ℕ) → Occurs b none c ↔ Atomic b c
-  -- Classify of an accepted catalogue without axioms answers a pair for each atomic record and no link, and leaves these bytes in the used part.
+  -- Classify of an accepted catalogue without axioms answers a pair for each atomic record and no link, and leaves these bytes in the used
+  -- part, which are classified afresh.
   pub W8-classify : (b : List ℕ) → checked b ≡ accepted → axioms b ≡ 0
       → ClassifyGives b (used b) (workUsed b) (countBelow (hasKind b 0) (concepts b)) 0 (atomicStore b)
+  pub W8-fresh : (b : List ℕ) → WellFormed b → Fresh b none (atomicStore b)
   -- Lookups in such a store: of atomic records yes on themselves and no otherwise; 19 where a top or a composite is named.
   pub W8-itself : (b store : List ℕ) → checked b ≡ accepted → take (used b) store ≡ atomicStore b → (c : ℕ) → Atomic b c → lookedUp b c c store ≡ Yes
   pub W8-others : (b store : List ℕ) → checked b ≡ accepted → take (used b) store ≡ atomicStore b
       → (c d : ℕ) → Atomic b c → Atomic b d → ¬ (c ≡ d) → lookedUp b c d store ≡ No
   pub W8-absent : (b store : List ℕ) → checked b ≡ accepted → take (used b) store ≡ atomicStore b
       → (c d : ℕ) → c < concepts b → d < concepts b → ¬ (Atomic b c × Atomic b d) → lookedUp b c d store ≡ Refused 19 0
-  -- W1's concepts give 4 pairs; adding (0,4) to them gains 4, touched 0 and 4.
+  -- W1's catalogue without its axioms gives 4 pairs; adding (0,4) gains 4, touched 0 and 4.
+  pub W8-bytes : written w1 none ≡ w8
   pub W8-W1 : ClassifyGives w8 35 28 4 0 w8Store
   pub W8-change : Changed w8 none axioms8 0 0 4 [] (0 ∷ 4 ∷ [])
   pub W8-add : EditGives Add w8 0 4 none axioms8 28 14 (Done 0 0 4 2) (0 ∷ 0 ∷ 4 ∷ 0 ∷ [])
