@@ -89,10 +89,10 @@ module _ (b : List ℕ) (F : Axioms) (store : List ℕ) (catalogue : checked b �
   unfolding listFits
   fits-means long = (leb-true (2 * concepts b) long, le-leb (2 * concepts b) long)
 
-  pub below-means : (d : ℕ) → (every (λ x. ltb x (concepts b)) (d ∷ []) ≡ true) ↔ (d < concepts b)
+  below-means : (d : ℕ) → (every (λ x. ltb x (concepts b)) (d ∷ []) ≡ true) ↔ (d < concepts b)
   below-means d = (λ e. ltb-true d (concepts b) (sym (every-one (λ x. ltb x (concepts b)) d) ∙ e), λ l. every-one (λ x. ltb x (concepts b)) d ∙ lt-ltb d (concepts b) l)
 
-  pub occur-means : (d : ℕ) → (every (occurs b F) (d ∷ []) ≡ true) ↔ Occurs b F d
+  occur-means : (d : ℕ) → (every (occurs b F) (d ∷ []) ≡ true) ↔ Occurs b F d
   occur-means d =
       let exact = occurs-exact b F wf range d in
       (λ e. exact .0 (sym (every-one (occurs b F) d) ∙ e), λ o. every-one (occurs b F) d ∙ exact .1 o)

@@ -3,14 +3,14 @@ use Prim.Native.Nat.{ℕ, _*_, _≤_, _<_}
 use native.Mathlib.Decide.{decLt}
 use native.Mathlib.Omega.{arith}
 use mathlib.Core.Path.{_≡_, sym, ap, _∙_}
-use mathlib.Core.Bool.{false}
+use mathlib.Core.Bool.{Bool, false}
 use mathlib.Core.List.{List, [], _∷_}
 use lib.Dec.{ltb}
 use lib.ListN.{length, drop, length-take}
 use denote.Ref.{RefT, now}
 use borrow.Author.Tests.{ltb-true, lt-ltb}
 use Rattle.catalogue.specs.Header.{concepts}
-use Rattle.catalogue.specs.Outcome.{accepted, refused}
+use Rattle.catalogue.specs.Outcome.{Outcome, accepted, refused}
 use Rattle.catalogue.specs.Checks.{checked}
 use Rattle.catalogue.specs.WellFormed.{WellFormed}
 use Rattle.catalogue.proofs.Outcomes.{ask-yes, ask-no}
@@ -48,6 +48,29 @@ one-number e f = let z : _≡_ {A = ℕ} 19 15 = cc in omega arith
 
 empty-clear : {part : List ℕ} → part ≡ [] → (d : ℕ) → bit part d ≡ false
 empty-clear {part} e d = bit-past part d (omega (arith, ap (λ (xs : List ℕ). length xs) e))
+
+-- ---- one concept named
+
+-- Accepted where it occurs, refused by 19 where it is a concept and does not, and by 15 where it is none.
+pub data NamedOne (b : List ℕ) (F : ℕ → ℕ → Bool) (c : ℕ) (o : Outcome) : Type 0 where
+  occurring : o ≡ accepted → Occurs b F c → NamedOne b F c o
+  missing : o ≡ refused 19 0 → c < concepts b → ¬ (Occurs b F c) → NamedOne b F c o
+  outside : o ≡ refused 15 0 → ¬ (c < concepts b) → NamedOne b F c o
+
+pub one-named : (b : List ℕ) (F : Axioms) (store : List ℕ) → checked b ≡ accepted → InRange b F → axiomCount b F ≤ 4096 → Fresh b F store
+    → (c : ℕ) → NamedOne b F c (readChecks b (c ∷ []) store)
+unfolding askNumbers askOccurs
+one-named b F store catalogue range few fresh c =
+    let asks = read-asks b F store catalogue range few fresh (c ∷ []) in
+    let number : every (λ x. ltb x (concepts b)) (c ∷ []) ≡ ltb c (concepts b) = every-one (λ x. ltb x (concepts b)) c in
+    let mark : every (occurs b F) (c ∷ []) ≡ occurs b F c = every-one (occurs b F) c in
+    let exact = occurs-exact b F (accepted-well-formed catalogue) range c in
+    by-bool (ltb c (concepts b))
+    (λ l.
+    by-bool (occurs b F c)
+    (λ o. occurring (asks ∙ ask-yes 15 0 _ (number ∙ l) ∙ ask-yes 19 0 _ (mark ∙ o)) (exact .0 o))
+    (λ n. missing (asks ∙ ask-yes 15 0 _ (number ∙ l) ∙ ask-no 19 0 _ (mark ∙ n)) (ltb-true c (concepts b) l) (λ o. not-both (exact .1 o) n)))
+    (λ g. outside (asks ∙ ask-no 15 0 _ (number ∙ g)) (λ l. not-both (lt-ltb c (concepts b) l) g))
 
 -- ---- a row of a fresh store
 
@@ -124,15 +147,9 @@ module _ (b : List ℕ) (F : Axioms) (store : RefT (List ℕ)) (catalogue : chec
 
     -- Demands 1 and 2 of a row from a fresh store: what its bits mean, and its refusals.
     pub row-means : RowMeans b F c answer (now part)
-    unfolding askNumbers askOccurs
-    row-means =
-        let asks = read-asks b F (now store) catalogue range few fresh (c ∷ []) in
-        let number : every (λ x. ltb x (concepts b)) (c ∷ []) ≡ ltb c (concepts b) = every-one (λ x. ltb x (concepts b)) c in
-        let mark : every (occurs b F) (c ∷ []) ≡ occurs b F c = every-one (occurs b F) c in
-        let exact = occurs-exact b F wf range c in
-        by-bool (ltb c (concepts b))
-        (λ l.
-        by-bool (occurs b F c)
-        (λ o. handed-out (asks ∙ ask-yes 15 0 _ (number ∙ l) ∙ ask-yes 19 0 _ (mark ∙ o)) (exact .0 o))
-        (λ n. refused-absent (asks ∙ ask-yes 15 0 _ (number ∙ l) ∙ ask-no 19 0 _ (mark ∙ n)) (ltb-true c (concepts b) l) (λ o. not-both (exact .1 o) n)))
-        (λ g. refused-outside (asks ∙ ask-no 15 0 _ (number ∙ g)) (λ l. not-both (lt-ltb c (concepts b) l) g))
+    row-means = go (one-named b F (now store) catalogue range few fresh c)
+      where
+        go : NamedOne b F c (readChecks b (c ∷ []) (now store)) → RowMeans b F c answer (now part)
+        go (occurring e o) = handed-out e o
+        go (missing e l n) = refused-absent e l n
+        go (outside e m) = refused-outside e m
