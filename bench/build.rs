@@ -8,8 +8,7 @@ const ARCHIVES: [(&str, &[&str]); 2] = [
         "exports",
         &[
             "girvotal_classify",
-            "girvotal_add",
-            "girvotal_withdraw",
+            "girvotal_change",
             "girvotal_lookup",
             "girvotal_list",
             "girvotal_row",

@@ -1,5 +1,6 @@
-/* Classifies a catalogue file, looks up the pairs (0, 3) and (3, 0), withdraws
- * the axiom (1, 5), looks them up again, and adds it back. */
+/* Classifies a catalogue file, looks up the pairs (0, 3) and (3, 0), moves the
+ * axiom (1, 5) to (0, 6), looks the first up again, moves it back, and withdraws
+ * it. */
 #include "girvotal.h"
 
 #include <stdio.h>
@@ -51,25 +52,27 @@ static void look_up(struct lent *l, size_t first, size_t second) {
     printf("(%zu, %zu) %s\n", first, second, l->answer[0] == 1 ? "yes" : "no");
 }
 
-static void withdraw(struct lent *l, size_t left, size_t right) {
-    check("withdraw",
-          girvotal_withdraw(l->catalogue, l->length, left, right, l->store, l->store_length,
-                            l->work, l->work_length, l->list, l->list_length, l->answer,
-                            GIRVOTAL_ENTRIES));
-    printf("withdrawn (%zu, %zu): removed %llu, returned %llu\n", left, right,
-           (unsigned long long)l->answer[0], (unsigned long long)l->answer[1]);
+/* An axiom as four bytes. */
+struct axiom {
+    uint8_t bytes[4];
+};
+
+static struct axiom axiom(size_t left, size_t right) {
+    struct axiom a = {{left % 256, left / 256, right % 256, right / 256}};
+    return a;
 }
 
-static void add(struct lent *l, size_t left, size_t right) {
-    check("add", girvotal_add(l->catalogue, l->length, left, right, l->store, l->store_length,
-                              l->work, l->work_length, l->list, l->list_length, l->answer,
-                              GIRVOTAL_ENTRIES));
-    printf("added (%zu, %zu): gained %llu\n", left, right, (unsigned long long)l->answer[2]);
-}
-
-/* The concepts that an edit listed. */
-static void print_touched(const struct lent *l) {
-    printf("touched");
+/* Withdraws so many axioms and adds so many, and prints the counts and the concepts
+ * that were touched. */
+static void change(struct lent *l, const struct axiom *withdrawn, size_t out,
+                   const struct axiom *added, size_t in) {
+    check("change",
+          girvotal_change(l->catalogue, l->length, withdrawn->bytes, 4 * out, added->bytes, 4 * in,
+                          l->store, l->store_length, l->work, l->work_length, l->list,
+                          l->list_length, l->answer, GIRVOTAL_ENTRIES));
+    printf("%zu out, %zu in: removed %llu, returned %llu, gained %llu, touched", out, in,
+           (unsigned long long)l->answer[0], (unsigned long long)l->answer[1],
+           (unsigned long long)l->answer[2]);
     for (size_t i = 0; i < l->answer[3]; i++) {
         printf(" %zu", number_at(l->list, 2 * i));
     }
@@ -100,11 +103,11 @@ int main(int argc, char **argv) {
     classify(&l);
     look_up(&l, 0, 3);
     look_up(&l, 3, 0);
-    withdraw(&l, 1, 5);
-    print_touched(&l);
+    struct axiom old = axiom(1, 5), new = axiom(0, 6);
+    change(&l, &old, 1, &new, 1);
     look_up(&l, 0, 3);
-    add(&l, 1, 5);
-    print_touched(&l);
+    change(&l, &new, 1, &old, 1);
+    change(&l, &old, 1, &new, 0);
     look_up(&l, 0, 3);
     free(l.store);
     free(l.work);

@@ -1,4 +1,4 @@
-/* Girvotal: classification of EL+ catalogues, axioms added and withdrawn, and
+/* Girvotal: classification of EL+ catalogues, changes of the axioms in force, and
  * calls that read a store.
  *
  * Link with target/staticlib/libexports.a, which `rt staticlib exports` writes.
@@ -50,32 +50,28 @@ size_t girvotal_classify(const uint8_t *catalogue, size_t catalogue_length,
                          uint8_t *work, size_t work_length,
                          uint64_t *answer, size_t answer_length);
 
-/* Adds the axiom that concept left lies under concept right to those in force
- * in the store, and all that follows newly from it. What the store holds may be
- * right or wrong. The concepts with new pairs or links are listed, rising, two
- * bytes each, low byte first; bytes of the list past them are kept. What work
- * held does not matter; its used part is zero afterwards.
- * Answer: 0, 0, pairs and links gained, concepts listed. Questions 1 to 17. */
-size_t girvotal_add(const uint8_t *catalogue, size_t catalogue_length,
-                    size_t left, size_t right,
-                    uint8_t *store, size_t store_length,
-                    uint8_t *work, size_t work_length,
-                    uint8_t *list, size_t list_length,
-                    uint64_t *answer, size_t answer_length);
+/* The most bytes of a list of axioms that girvotal_change gets. */
+#define GIRVOTAL_AXIOMS_LENGTH 256
 
-/* Withdraws the axiom that concept left lies under concept right from those in
- * force in the store, and all that no longer follows. What the store holds may
- * be right or wrong. The concepts of which a pair or link was removed, also one
- * that returned, are listed as by girvotal_add. What work held does not matter;
- * its used part is zero afterwards.
- * Answer: pairs and links removed, of these returned, pairs and links gained
- * (none where the store was right), concepts listed. Questions 1 to 15, 18. */
-size_t girvotal_withdraw(const uint8_t *catalogue, size_t catalogue_length,
-                         size_t left, size_t right,
-                         uint8_t *store, size_t store_length,
-                         uint8_t *work, size_t work_length,
-                         uint8_t *list, size_t list_length,
-                         uint64_t *answer, size_t answer_length);
+/* Withdraws the axioms of one list from those in force in the store and adds those
+ * of the other, at once: what no longer follows goes, and what follows newly comes.
+ * An axiom has four bytes as in the catalogue: left, then right, low byte first. A
+ * list may be empty; the order inside it is without effect. What the store holds
+ * may be right or wrong. The concepts of which a pair or link was removed, also one
+ * that returned, or gained are listed, rising, two bytes each, low byte first;
+ * bytes of the list past them are kept. What work held does not matter; its used
+ * part is zero afterwards.
+ * Answer: pairs and links removed, of these returned, pairs and links gained,
+ * concepts listed. Questions 1 to 12, 22 (a list over GIRVOTAL_AXIOMS_LENGTH or
+ * not of whole axioms), 23 (an axiom twice in the two lists together), 13 to 15,
+ * 18, 16, 17. */
+size_t girvotal_change(const uint8_t *catalogue, size_t catalogue_length,
+                       const uint8_t *withdrawn, size_t withdrawn_length,
+                       const uint8_t *added, size_t added_length,
+                       uint8_t *store, size_t store_length,
+                       uint8_t *work, size_t work_length,
+                       uint8_t *list, size_t list_length,
+                       uint64_t *answer, size_t answer_length);
 
 /* Does concept first lie under concept second, by the store?
  * Answer: 1 for yes or 0 for no, 0, 0, 0. Questions 1 to 10, 13 to 15, 19. */

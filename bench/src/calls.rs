@@ -2,7 +2,7 @@
 
 use crate::exported::{self, ENTRIES};
 use reference::calls::{Changed, Counts, Row};
-use reference::catalogue::{Axiom, Refusal};
+use reference::catalogue::Refusal;
 
 /// What a returned number and the entries of the answer say.
 pub fn result(returned: usize, entries: [u64; ENTRIES]) -> Result<[usize; ENTRIES], Refusal> {
@@ -28,36 +28,23 @@ pub fn classify(catalogue: &[u8], store: &mut [u8], work: &mut [u8]) -> Result<C
     Ok(Counts { pairs, links })
 }
 
-/// Adds an axiom.
-pub fn add(
+/// Withdraws the axioms of one list and adds those of the other.
+pub fn change(
     catalogue: &[u8],
-    axiom: Axiom,
+    withdrawn: &[u8],
+    added: &[u8],
     store: &mut [u8],
     work: &mut [u8],
     touched: &mut [u8],
 ) -> Result<Changed, Refusal> {
-    answered(|a| exported::add(catalogue, axiom, store, work, touched, a)).map(changed)
-}
-
-/// Withdraws an axiom.
-pub fn withdraw(
-    catalogue: &[u8],
-    axiom: Axiom,
-    store: &mut [u8],
-    work: &mut [u8],
-    touched: &mut [u8],
-) -> Result<Changed, Refusal> {
-    answered(|a| exported::withdraw(catalogue, axiom, store, work, touched, a)).map(changed)
-}
-
-/// An edit's counts.
-fn changed([removed, returned, gained, touched]: [usize; ENTRIES]) -> Changed {
-    Changed {
+    let [removed, returned, gained, touched] =
+        answered(|a| exported::change(catalogue, withdrawn, added, store, work, touched, a))?;
+    Ok(Changed {
         removed,
         returned,
         gained,
         touched,
-    }
+    })
 }
 
 /// Whether the store has C ⊑ D.

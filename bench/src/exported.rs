@@ -2,8 +2,6 @@
 //! slice: it returns 0 where accepted, number + 65,536 · record where refused,
 //! and [`SHORT_ANSWER`] where the answer has fewer than [`ENTRIES`] entries.
 
-use reference::catalogue::Axiom;
-
 /// How many entries an answer has at least; those after them are kept.
 pub const ENTRIES: usize = 4;
 
@@ -23,26 +21,13 @@ mod raw {
             answer_length: usize,
         ) -> usize;
 
-        pub fn girvotal_add(
+        pub fn girvotal_change(
             catalogue: *const u8,
             catalogue_length: usize,
-            left: usize,
-            right: usize,
-            store: *mut u8,
-            store_length: usize,
-            work: *mut u8,
-            work_length: usize,
-            list: *mut u8,
-            list_length: usize,
-            answer: *mut u64,
-            answer_length: usize,
-        ) -> usize;
-
-        pub fn girvotal_withdraw(
-            catalogue: *const u8,
-            catalogue_length: usize,
-            left: usize,
-            right: usize,
+            withdrawn: *const u8,
+            withdrawn_length: usize,
+            added: *const u8,
+            added_length: usize,
             store: *mut u8,
             store_length: usize,
             work: *mut u8,
@@ -119,10 +104,12 @@ pub fn classify(catalogue: &[u8], store: &mut [u8], work: &mut [u8], answer: &mu
     }
 }
 
-/// Adds an axiom: removed, returned, gained, and the count of concepts listed.
-pub fn add(
+/// Withdraws the axioms of one list and adds those of the other: removed, returned,
+/// gained, and the count of concepts listed.
+pub fn change(
     catalogue: &[u8],
-    (left, right): Axiom,
+    withdrawn: &[u8],
+    added: &[u8],
     store: &mut [u8],
     work: &mut [u8],
     list: &mut [u8],
@@ -130,39 +117,13 @@ pub fn add(
 ) -> usize {
     // SAFETY: as said above.
     unsafe {
-        raw::girvotal_add(
+        raw::girvotal_change(
             catalogue.as_ptr(),
             catalogue.len(),
-            left,
-            right,
-            store.as_mut_ptr(),
-            store.len(),
-            work.as_mut_ptr(),
-            work.len(),
-            list.as_mut_ptr(),
-            list.len(),
-            answer.as_mut_ptr(),
-            answer.len(),
-        )
-    }
-}
-
-/// Withdraws an axiom: removed, returned, gained, and the count of concepts listed.
-pub fn withdraw(
-    catalogue: &[u8],
-    (left, right): Axiom,
-    store: &mut [u8],
-    work: &mut [u8],
-    list: &mut [u8],
-    answer: &mut [u64],
-) -> usize {
-    // SAFETY: as said above.
-    unsafe {
-        raw::girvotal_withdraw(
-            catalogue.as_ptr(),
-            catalogue.len(),
-            left,
-            right,
+            withdrawn.as_ptr(),
+            withdrawn.len(),
+            added.as_ptr(),
+            added.len(),
             store.as_mut_ptr(),
             store.len(),
             work.as_mut_ptr(),

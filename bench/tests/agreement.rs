@@ -4,8 +4,8 @@
 #[path = "support/library.rs"]
 mod library;
 
-use reference::calls;
-use reference::catalogue::{Axiom, Catalogue, Concept};
+use reference::calls::{self, Changed};
+use reference::catalogue::{Axiom, Catalogue, Concept, Refusal, axioms as listed, list};
 use reference::examples;
 use reference::random::Random;
 use reference::store::Layout;
@@ -45,23 +45,27 @@ fn compare_classify(catalogue: &[u8], store: usize, work: usize) {
     assert!(ours == others, "buffers of classify of {catalogue:?}");
 }
 
-/// The edits: a name, the library's, the reference's.
-const EDITS: [(&str, library::Edit, library::Edit); 2] = [
-    ("add", library::add, calls::add),
-    ("withdraw", library::withdraw, calls::withdraw),
-];
+/// Catalogue, both lists, store, work space, list of the touched.
+type Change = fn(&[u8], &[u8], &[u8], &mut [u8], &mut [u8], &mut [u8]) -> Result<Changed, Refusal>;
 
-/// Edits by both, of a store as it is, with other buffers of these lengths.
-fn compare_edits(catalogue: &[u8], axiom: Axiom, store: &[u8], work: usize, list: usize) {
-    for (name, edit, other) in EDITS {
-        let [ours, others] = [edit, other].map(|call| {
-            let mut lent = (store.to_vec(), vec![FILL; work], vec![FILL; list]);
-            let result = call(catalogue, axiom, &mut lent.0, &mut lent.1, &mut lent.2);
-            (result, lent)
-        });
-        let place = || format!("{name} {axiom:?} with {catalogue:?} and {store:?}");
-        assert_eq!(ours.0, others.0, "{}", place());
-        assert!(ours.1 == others.1, "buffers of {}", place());
+/// Changes by both, of a store as it is, with other buffers of these lengths.
+fn compare_change(catalogue: &[u8], lists: [&[u8]; 2], store: &[u8], work: usize, list: usize) {
+    let [out, into] = lists;
+    let [ours, others] = [library::change as Change, calls::change].map(|change| {
+        let mut lent = (store.to_vec(), vec![FILL; work], vec![FILL; list]);
+        let result = change(catalogue, out, into, &mut lent.0, &mut lent.1, &mut lent.2);
+        (result, lent)
+    });
+    let place = || format!("{out:?} and {into:?} with {catalogue:?} and {store:?}");
+    assert_eq!(ours.0, others.0, "{}", place());
+    assert!(ours.1 == others.1, "buffers of {}", place());
+}
+
+/// An axiom added, withdrawn, and turned round.
+fn compare_edits(catalogue: &[u8], axiom: Axiom, store: &[u8], work: usize, length: usize) {
+    let (one, other) = (list(&[axiom]), list(&[(axiom.1, axiom.0)]));
+    for lists in [[&[], &one[..]], [&one, &[]], [&one, &other]] {
+        compare_change(catalogue, lists, store, work, length);
     }
 }
 
@@ -187,11 +191,21 @@ fn any_axiom(random: &mut Random, catalogue: &Catalogue) -> Axiom {
     (random.below(n), random.below(n))
 }
 
-/// Axioms added and withdrawn in a row by the library, on a fresh store, which is
-/// then as if it were classified from those in force; and on one that lacks
-/// marks, or has others.
+/// Some of the axioms in force, and some others, perhaps in force as well.
+fn any_lists(random: &mut Random, catalogue: &Catalogue, axioms: &BTreeSet<Axiom>) -> [Vec<u8>; 2] {
+    let (out, into) = (random.below(4), random.below(4));
+    let one_in = 1 + axioms.len() / (1 + out);
+    let in_force = axioms.iter().filter(|_| random.below(one_in) == 0);
+    let mut withdrawn: Vec<Axiom> = in_force.take(out).copied().collect();
+    withdrawn.reverse();
+    let added = (0..into).map(|_| any_axiom(random, catalogue));
+    [list(&withdrawn), list(&added.collect::<Vec<Axiom>>())]
+}
+
+/// Changes in a row by the library, on a fresh store, which is then as if it were
+/// classified from the axioms in force; and on one that lacks marks.
 #[test]
-fn edits_in_a_row() {
+fn changes_in_a_row() {
     for seed in 0..150 {
         let random = &mut Random::new(1000 + seed);
         let mut catalogue = random_catalogue(random);
@@ -202,25 +216,40 @@ fn edits_in_a_row() {
         for byte in &mut wrong {
             *byte &= !(random.below(256) & random.below(256)) as u8;
         }
-        let (mut work, mut list) = (vec![FILL; store.len()], vec![FILL; 200]);
+        let (mut work, mut touched) = (vec![FILL; store.len()], vec![FILL; 200]);
         for _ in 0..8 {
-            let any = any_axiom(random, &catalogue);
-            let in_force = axioms.iter().nth(random.below(axioms.len().max(1)));
-            let axiom = match (random.below(2), in_force) {
-                (1, Some(&axiom)) => axiom,
-                _ => any,
-            };
-            compare_edits(&bytes, axiom, &store, store.len(), 200);
-            compare_edits(&bytes, axiom, &wrong, store.len(), 200);
-            let (_, edit, _) = EDITS[usize::from(axioms.contains(&axiom))];
-            edit(&bytes, axiom, &mut store, &mut work, &mut list).expect("accepted");
-            edit(&bytes, axiom, &mut wrong, &mut work, &mut list).ok();
-            if !axioms.remove(&axiom) {
-                axioms.insert(axiom);
+            let [out, into] = &any_lists(random, &catalogue, &axioms);
+            for store in [&mut store, &mut wrong] {
+                compare_change(&bytes, [out, into], store, work.len(), 200);
+            }
+            library::change(&bytes, out, into, &mut wrong, &mut work, &mut touched).ok();
+            let done = library::change(&bytes, out, into, &mut store, &mut work, &mut touched);
+            if done.is_ok() {
+                let [out, into] = [out, into].map(|list| listed(list).into_iter().collect());
+                axioms = &(&axioms - &out) | &into;
             }
         }
         catalogue.axioms = axioms.into_iter().collect();
         assert!(store == classified(&catalogue), "as if classified");
+    }
+}
+
+/// Lists of every length up to past the longest, each alone and both.
+#[test]
+fn every_length_of_a_list() {
+    let catalogue = Catalogue {
+        concepts: vec![Concept::Atomic; 70],
+        axioms: (0..66).map(|i| (i, i + 1)).collect(),
+        ..examples::w7()
+    };
+    let (bytes, store) = (catalogue.bytes(), classified(&catalogue));
+    let own = list(&catalogue.axioms);
+    let new = list(&(0..66).map(|i| (i + 2, i)).collect::<Vec<Axiom>>());
+    for length in 0..=own.len() {
+        let (own, new) = (&own[..length], &new[..length]);
+        for lists in [[own, &[]], [&[], new], [own, new], [new, own], [own, own]] {
+            compare_change(&bytes, lists, &store, store.len(), 140);
+        }
     }
 }
 
@@ -265,8 +294,8 @@ fn great_numbers() {
         let refused = library::listing(&bytes, great, &store, &mut list);
         assert_eq!(refused, calls::listing(&bytes, great, &store, &mut list));
         assert_eq!(refused.expect_err("refused").number, 15);
-        for axiom in [(0, great), (great, 0)] {
-            compare_edits(&bytes, axiom, &store, store.len(), store.len());
+        if great < 65_536 {
+            compare_edits(&bytes, (0, great), &store, store.len(), store.len());
         }
     }
 }

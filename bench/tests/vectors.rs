@@ -8,7 +8,7 @@ mod library;
 mod vectors;
 
 use reference::calls::{Changed, Counts, Row};
-use reference::catalogue::{Axiom, Refusal};
+use reference::catalogue::Refusal;
 use vectors::{Calls, Vector, run_folder};
 
 struct Library;
@@ -23,26 +23,16 @@ impl Calls for Library {
         library::classify(catalogue, store, work)
     }
 
-    fn add(
+    fn change(
         &self,
         catalogue: &[u8],
-        axiom: Axiom,
+        withdrawn: &[u8],
+        added: &[u8],
         store: &mut [u8],
         work: &mut [u8],
         touched: &mut [u8],
     ) -> Result<Changed, Refusal> {
-        library::add(catalogue, axiom, store, work, touched)
-    }
-
-    fn withdraw(
-        &self,
-        catalogue: &[u8],
-        axiom: Axiom,
-        store: &mut [u8],
-        work: &mut [u8],
-        touched: &mut [u8],
-    ) -> Result<Changed, Refusal> {
-        library::withdraw(catalogue, axiom, store, work, touched)
+        library::change(catalogue, withdrawn, added, store, work, touched)
     }
 
     fn lookup(&self, catalogue: &[u8], c: usize, d: usize, store: &[u8]) -> Result<bool, Refusal> {

@@ -1,8 +1,10 @@
 //! The public calls over lent buffers. Each puts its checks (document 01: its
 //! questions) in order and changes nothing where one fails.
 
-use crate::catalogue::{Axiom, Catalogue, Concept, MAX_AXIOMS, Refusal, require};
-use crate::change::{Change, Edit};
+use crate::catalogue::{
+    AXIOM_LENGTH, Axiom, Catalogue, Concept, MAX_AXIOMS, MAX_LISTED, Refusal, axioms, require,
+};
+use crate::change::Edit;
 use crate::rules::{Ontology, Rules};
 use crate::saturation::least_set;
 use crate::store::Layout;
@@ -15,7 +17,7 @@ pub struct Counts {
     pub links: usize,
 }
 
-/// What an edit answers: its three counts, and the length of the list of
+/// What a change answers: its three counts, and the length of the list of
 /// affected partitions (document 01: touched).
 #[derive(Clone, Copy, Debug, PartialEq, Eq)]
 pub struct Changed {
@@ -66,19 +68,6 @@ impl Opened {
         open(catalogue, layout, store)
     }
 
-    /// Questions 1 to 14.
-    fn for_edit(
-        catalogue: &[u8],
-        store: &[u8],
-        work: &[u8],
-        touched: &[u8],
-    ) -> Result<Opened, Refusal> {
-        let (catalogue, layout) = sized(catalogue, store)?;
-        require(11, work.len() >= layout.work_length())?;
-        require(12, touched.len() >= 2 * catalogue.concepts.len())?;
-        open(catalogue, layout, store)
-    }
-
     /// Question 15.
     fn require_concepts(&self, named: &[usize]) -> Result<(), Refusal> {
         require(15, named.iter().all(|&c| c < self.catalogue.concepts.len()))
@@ -98,18 +87,18 @@ impl Opened {
         store: &mut [u8],
         work: &mut [u8],
         touched: &mut [u8],
-        run: impl Fn(&Edit) -> Change,
     ) -> Changed {
         let rules = Rules::new(&self.catalogue);
         let old = Ontology::new(&rules, self.axioms.clone());
         let new = Ontology::new(&rules, axioms);
         let held = self.layout.held(store);
-        let change = run(&Edit {
+        let edit = Edit {
             rules: &rules,
             old: &old,
             new: &new,
             held: &held,
-        });
+        };
+        let change = edit.run();
         self.layout.write(store, &new.axioms, &change.set);
         work[..self.layout.work_length()].fill(0);
         write_list(touched, &change.touched);
@@ -144,37 +133,45 @@ pub fn classify(catalogue: &[u8], store: &mut [u8], work: &mut [u8]) -> Result<C
     })
 }
 
-/// Adds an axiom. Questions 1 to 17.
-pub fn add(
+/// Takes the axioms of one list out of force and those of the other into it.
+/// Questions 1 to 12, 22, 23, 13 to 15, 18, 16 and 17.
+pub fn change(
     catalogue: &[u8],
-    axiom: Axiom,
+    withdrawn: &[u8],
+    added: &[u8],
     store: &mut [u8],
     work: &mut [u8],
     touched: &mut [u8],
 ) -> Result<Changed, Refusal> {
-    let opened = Opened::for_edit(catalogue, store, work, touched)?;
-    opened.require_concepts(&[axiom.0, axiom.1])?;
-    require(16, !opened.axioms.contains(&axiom))?;
-    require(17, opened.axioms.len() < MAX_AXIOMS)?;
-    let mut axioms = opened.axioms.clone();
-    axioms.insert(axiom);
-    Ok(opened.edit(axioms, store, work, touched, |edit| edit.add()))
+    let (catalogue, layout) = sized(catalogue, store)?;
+    require(11, work.len() >= layout.work_length())?;
+    require(12, touched.len() >= 2 * catalogue.concepts.len())?;
+    let (withdrawn, added) = read_lists(withdrawn, added)?;
+    let opened = open(catalogue, layout, store)?;
+    let named = withdrawn.union(&added);
+    let sides: Vec<usize> = named.flat_map(|&(left, right)| [left, right]).collect();
+    opened.require_concepts(&sides)?;
+    require(18, withdrawn.is_subset(&opened.axioms))?;
+    require(16, added.is_disjoint(&opened.axioms))?;
+    let axioms = &(&opened.axioms - &withdrawn) | &added;
+    require(17, axioms.len() <= MAX_AXIOMS)?;
+    Ok(opened.edit(axioms, store, work, touched))
 }
 
-/// Withdraws an axiom. Questions 1 to 15, and 18.
-pub fn withdraw(
-    catalogue: &[u8],
-    axiom: Axiom,
-    store: &mut [u8],
-    work: &mut [u8],
-    touched: &mut [u8],
-) -> Result<Changed, Refusal> {
-    let opened = Opened::for_edit(catalogue, store, work, touched)?;
-    opened.require_concepts(&[axiom.0, axiom.1])?;
-    require(18, opened.axioms.contains(&axiom))?;
-    let mut axioms = opened.axioms.clone();
-    axioms.remove(&axiom);
-    Ok(opened.edit(axioms, store, work, touched, |edit| edit.withdraw()))
+/// The axioms of both lists. Questions 22 and 23.
+fn read_lists(
+    withdrawn: &[u8],
+    added: &[u8],
+) -> Result<(BTreeSet<Axiom>, BTreeSet<Axiom>), Refusal> {
+    let fits = |list: &[u8]| {
+        list.len() <= AXIOM_LENGTH * MAX_LISTED && list.len().is_multiple_of(AXIOM_LENGTH)
+    };
+    require(22, fits(withdrawn) && fits(added))?;
+    let both = axioms(&[withdrawn, added].concat());
+    let named: BTreeSet<Axiom> = both.iter().copied().collect();
+    require(23, named.len() == both.len())?;
+    let set = |list: &[u8]| axioms(list).into_iter().collect();
+    Ok((set(withdrawn), set(added)))
 }
 
 /// Whether the store has C ⊑ D. Questions 1 to 10, 13 to 15, and 19.

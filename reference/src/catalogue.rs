@@ -7,6 +7,12 @@ pub const MAX_ROLES: usize = 16;
 pub const MAX_ROLE_AXIOMS: usize = 64;
 pub const MAX_AXIOMS: usize = 4096;
 
+/// The most axioms of a list that a change gets.
+pub const MAX_LISTED: usize = 64;
+
+/// The bytes of an axiom.
+pub const AXIOM_LENGTH: usize = 4;
+
 /// The number of the check that failed, and the record at fault or 0.
 #[derive(Clone, Copy, Debug, PartialEq, Eq)]
 pub struct Refusal {
@@ -62,6 +68,13 @@ fn word(bytes: &[u8], at: usize) -> usize {
     usize::from(bytes[at]) + 256 * usize::from(bytes[at + 1])
 }
 
+/// A two-byte number's bytes.
+fn word_bytes(number: usize) -> [u8; 2] {
+    u16::try_from(number)
+        .expect("a two-byte number")
+        .to_le_bytes()
+}
+
 /// `count` records of N numbers each, from an offset on.
 fn records<const N: usize>(bytes: &[u8], at: usize, count: usize) -> Vec<[usize; N]> {
     (0..count)
@@ -69,10 +82,25 @@ fn records<const N: usize>(bytes: &[u8], at: usize, count: usize) -> Vec<[usize;
         .collect()
 }
 
+/// The axioms of a list of bytes, four each: left, then right.
+pub fn axioms(list: &[u8]) -> Vec<Axiom> {
+    let sides = records::<2>(list, 0, list.len() / AXIOM_LENGTH);
+    sides
+        .into_iter()
+        .map(|[left, right]| (left, right))
+        .collect()
+}
+
+/// Axioms as a list of bytes.
+pub fn list(axioms: &[Axiom]) -> Vec<u8> {
+    let sides = axioms.iter().flat_map(|&(left, right)| [left, right]);
+    sides.flat_map(word_bytes).collect()
+}
+
 /// Where each section starts, and where the last one ends, by the counts of
 /// concepts, inclusions, compositions and axioms.
 fn section_offsets(counts: [usize; 4]) -> [usize; 5] {
-    let lengths = [6, 4, 6, 4];
+    let lengths = [6, 4, 6, AXIOM_LENGTH];
     let mut offsets = [HEADER_LENGTH; 5];
     for i in 0..4 {
         offsets[i + 1] = offsets[i] + lengths[i] * counts[i];
@@ -141,12 +169,12 @@ impl Catalogue {
         let concepts = records::<3>(bytes, offsets[0], n);
         let inclusions = records::<2>(bytes, offsets[1], h);
         let compositions = records::<3>(bytes, offsets[2], k);
-        let axioms = records::<2>(bytes, offsets[3], a);
+        let axioms = axioms(&bytes[offsets[3]..]);
         require_all(5, n, |i| concepts[i][0] <= 3)?;
         require_all(6, n, |i| fields_fit(i, concepts[i], m))?;
         require_all(7, h, |i| inclusions[i].iter().all(|&role| role < m))?;
         require_all(7, k, |i| compositions[i].iter().all(|&role| role < m))?;
-        require_all(8, a, |i| axioms[i].iter().all(|&side| side < n))?;
+        require_all(8, a, |i| axioms[i].0 < n && axioms[i].1 < n)?;
         require_all(9, a, |i| i == 0 || axioms[i - 1] < axioms[i])?;
 
         Ok(Catalogue {
@@ -157,10 +185,7 @@ impl Catalogue {
                 .into_iter()
                 .map(|[s1, s2, s]| (s1, s2, s))
                 .collect(),
-            axioms: axioms
-                .into_iter()
-                .map(|[left, right]| (left, right))
-                .collect(),
+            axioms,
         })
     }
 
@@ -205,8 +230,8 @@ impl Catalogue {
                 .iter()
                 .flat_map(|&(s1, s2, s)| [s1, s2, s]),
         );
-        words.extend(self.axioms.iter().flat_map(|&(left, right)| [left, right]));
-        let word_bytes = |w: usize| u16::try_from(w).expect("a two-byte number").to_le_bytes();
-        words.into_iter().flat_map(word_bytes).collect()
+        let mut bytes: Vec<u8> = words.into_iter().flat_map(word_bytes).collect();
+        bytes.extend(list(&self.axioms));
+        bytes
     }
 }

@@ -20,18 +20,17 @@ pub(crate) const FILL: usize = 0;
 pub(crate) const MARK: usize = 1;
 pub(crate) const UNMARK: usize = 2;
 pub(crate) const CLASSIFY: usize = 3;
-pub(crate) const EXPORTED_ADD: usize = 4;
-pub(crate) const ADD: usize = 5;
-pub(crate) const EXPORTED_WITHDRAW: usize = 6;
-pub(crate) const WITHDRAW: usize = 7;
+pub(crate) const EXPORTED_CHANGE: usize = 4;
+pub(crate) const CHANGE: usize = 5;
 
 /// The bytes of a step's numbers, in their order.
-pub(crate) const SIZES: [usize; 9] = [2, 2, 2, 2, 2, 4, 4, 2, 2];
+pub(crate) const SIZES: [usize; 11] = [2, 2, 2, 2, 2, 2, 2, 4, 4, 2, 2];
 
-/// The numbers of a step: what it does, the sides of an axiom (a fill's byte is
-/// the left one), the entries of the answer that are lent, the bytes of the list,
-/// of the store (or where its part starts) and of the work space (or how many
-/// bytes are filled), and a part of the input: its start and its length.
+/// The numbers of a step: what it does, start and length of the withdrawn list
+/// (the first is a fill's byte) and of the added list, the entries of the answer
+/// that are lent, the bytes of the list, of the store (or where its part starts)
+/// and of the work space (or how many bytes are filled), and start and length of
+/// another part of the input.
 pub(crate) type Step = [usize; SIZES.len()];
 
 /// What the program prints.
@@ -45,8 +44,10 @@ pub fn text(input: &[u8]) -> String {
         let step: Step = SIZES.map(|size| steps.number(size));
         let [
             call,
-            left,
-            right,
+            withdrawn,
+            withdrawn_length,
+            added,
+            added_length,
             entries,
             list_lent,
             at,
@@ -54,29 +55,28 @@ pub fn text(input: &[u8]) -> String {
             start,
             length,
         ] = step;
-        let bytes = &input[start..start + length];
+        let bytes = part(input, start, length);
         match call {
-            FILL => store[at..at + count].fill(left as u8),
-            MARK => (0..length).for_each(|i| store[at + i] |= bytes[i]),
-            UNMARK => (0..length).for_each(|i| store[at + i] &= !bytes[i]),
+            FILL => store[at..at + count].fill(withdrawn as u8),
+            MARK => (0..bytes.len()).for_each(|i| store[at + i] |= bytes[i]),
+            UNMARK => (0..bytes.len()).for_each(|i| store[at + i] &= !bytes[i]),
             _ => {
                 work.fill(90);
                 list.fill(195);
                 let store_lent = &mut store[..at.min(STORE_LENGTH)];
                 let work_lent = &mut work[..count.min(WORK_LENGTH)];
                 let list_lent = &mut list[..list_lent.min(LIST_LENGTH)];
-                let axiom = (left, right);
+                let withdrawn = part(input, withdrawn, withdrawn_length);
+                let added = part(input, added, added_length);
                 lines += &match call {
                     CLASSIFY => classified(bytes, store_lent, work_lent),
-                    EXPORTED_ADD => replied(entries, |answer| {
-                        exports::add(bytes, axiom, store_lent, work_lent, list_lent, answer)
+                    EXPORTED_CHANGE => replied(entries, |answer| {
+                        exports::change(
+                            bytes, withdrawn, added, store_lent, work_lent, list_lent, answer,
+                        )
                     }),
-                    EXPORTED_WITHDRAW => replied(entries, |answer| {
-                        exports::withdraw(bytes, axiom, store_lent, work_lent, list_lent, answer)
-                    }),
-                    ADD => changed(calls::add(bytes, axiom, store_lent, work_lent, list_lent)),
-                    _ => changed(calls::withdraw(
-                        bytes, axiom, store_lent, work_lent, list_lent,
+                    _ => changed(calls::change(
+                        bytes, withdrawn, added, store_lent, work_lent, list_lent,
                     )),
                 };
                 let sums = [&store, &work, &list].map(|buffer| fnv1a(buffer));
@@ -86,6 +86,12 @@ pub fn text(input: &[u8]) -> String {
         }
     }
     lines
+}
+
+/// A part of the input, cut where the input ends.
+fn part(input: &[u8], start: usize, length: usize) -> &[u8] {
+    let cut = |at: usize| at.min(input.len());
+    &input[cut(start)..cut(start + length)]
 }
 
 fn classified(catalogue: &[u8], store: &mut [u8], work: &mut [u8]) -> String {

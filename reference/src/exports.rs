@@ -2,7 +2,7 @@
 //! answer where it is accepted.
 
 use crate::calls::{self, Changed};
-use crate::catalogue::{Axiom, Refusal};
+use crate::catalogue::Refusal;
 
 /// How many entries an answer has at least.
 const ENTRIES: usize = 4;
@@ -25,7 +25,7 @@ fn exported(answer: &mut [u64], call: impl FnOnce() -> Result<[usize; ENTRIES], 
     }
 }
 
-/// An edit's counts in their order.
+/// A change's counts in their order.
 pub(crate) fn entries(changed: Changed) -> [usize; ENTRIES] {
     let Changed {
         removed,
@@ -43,31 +43,17 @@ pub fn classify(catalogue: &[u8], store: &mut [u8], work: &mut [u8], answer: &mu
     })
 }
 
-pub fn add(
+pub fn change(
     catalogue: &[u8],
-    axiom: Axiom,
+    withdrawn: &[u8],
+    added: &[u8],
     store: &mut [u8],
     work: &mut [u8],
     touched: &mut [u8],
     answer: &mut [u64],
 ) -> usize {
     exported(answer, || {
-        let changed = calls::add(catalogue, axiom, store, work, touched)?;
-        Ok(entries(changed))
-    })
-}
-
-pub fn withdraw(
-    catalogue: &[u8],
-    axiom: Axiom,
-    store: &mut [u8],
-    work: &mut [u8],
-    touched: &mut [u8],
-    answer: &mut [u64],
-) -> usize {
-    exported(answer, || {
-        let changed = calls::withdraw(catalogue, axiom, store, work, touched)?;
-        Ok(entries(changed))
+        calls::change(catalogue, withdrawn, added, store, work, touched).map(entries)
     })
 }
 

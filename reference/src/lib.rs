@@ -17,7 +17,8 @@
 //!   programs
 //! - `checksum`: the checksum that they print
 //! - `examples`: built-in catalogues
-//! - `inputs`, `edit_cases`, `running_cases`: inputs of programs
+//! - `inputs`, `edit_cases`, `limit_cases`, `edit_script`, `running_cases`: inputs
+//!   of programs
 //! - `random`: random numbers and small catalogues
 //! - `expected`: expected outputs of programs
 
@@ -27,6 +28,7 @@ pub mod catalogue;
 pub mod change;
 pub mod checksum;
 pub mod edit_cases;
+mod edit_script;
 pub mod edits;
 pub mod examples;
 pub mod expected;
@@ -34,6 +36,7 @@ pub mod exports;
 pub mod expressions;
 pub mod fixed;
 pub mod inputs;
+mod limit_cases;
 pub mod listing;
 pub mod programs;
 pub mod random;

@@ -18,14 +18,17 @@ const ANSWERS_LENGTH: usize = 390;
 const SHOWN: usize = 64;
 
 /// The bytes of a call; the bytes of list and the numbers of answer that it gets.
-pub(crate) const SIZE: usize = 5;
+pub(crate) const SIZE: usize = HEAD + 2 * ROOM;
 pub(crate) const LIST: usize = 1_024;
 pub(crate) const ENTRIES: usize = 6;
 
+/// A call's kind and the lengths of its lists, and the room for each list.
+const HEAD: usize = 5;
+pub(crate) const ROOM: usize = 260;
+
 /// The kinds of calls.
 pub(crate) const CLASSIFY: u8 = 0;
-pub(crate) const ADD: u8 = 1;
-pub(crate) const WITHDRAW: u8 = 2;
+pub(crate) const CHANGE: u8 = 1;
 
 /// What carrying out a list of calls answers.
 enum Carried {
@@ -35,14 +38,23 @@ enum Carried {
     ShortAnswers,
 }
 
+/// The withdrawn list and the added list of a whole call.
+fn lists(call: &[u8]) -> Option<[&[u8]; 2]> {
+    let mut numbers = Input(&call[1..HEAD]);
+    let mut list = |from: usize| call[from..from + ROOM].get(..numbers.number(2));
+    Some([list(HEAD)?, list(HEAD + ROOM)?])
+}
+
 /// What is asked of a list of calls before the first one.
-fn asked(list: &[u8], lists: usize, answers: usize) -> Carried {
-    let last_kind = |k: usize| if k == 0 { CLASSIFY } else { WITHDRAW };
-    let bad = |(k, call): (usize, &[u8])| call.len() < SIZE || call[0] > last_kind(k);
+fn asked(list: &[u8], lists_lent: usize, answers: usize) -> Carried {
+    let last_kind = |k: usize| if k == 0 { CLASSIFY } else { CHANGE };
+    let bad = |(k, call): (usize, &[u8])| {
+        call.len() < SIZE || call[0] > last_kind(k) || lists(call).is_none()
+    };
     let count = list.chunks(SIZE).count();
     match list.chunks(SIZE).enumerate().position(bad) {
         Some(k) => Carried::BadCall(k),
-        None if lists / LIST < count => Carried::ShortLists,
+        None if lists_lent / LIST < count => Carried::ShortLists,
         None if answers / ENTRIES < count => Carried::ShortAnswers,
         None => Carried::Done(count),
     }
@@ -56,13 +68,10 @@ fn answer(
     work: &mut [u8],
     touched: &mut [u8],
 ) -> [usize; ENTRIES] {
-    let mut numbers = Input(call);
-    let [kind, left, right] = [1, 2, 2].map(|size| numbers.number(size));
-    let axiom = (left, right);
-    let result = match kind as u8 {
+    let [withdrawn, added] = lists(call).expect("a right call");
+    let result = match call[0] {
         CLASSIFY => calls::classify(catalogue, store, work).map(|c| [c.pairs, c.links, 0, 0]),
-        ADD => calls::add(catalogue, axiom, store, work, touched).map(entries),
-        _ => calls::withdraw(catalogue, axiom, store, work, touched).map(entries),
+        _ => calls::change(catalogue, withdrawn, added, store, work, touched).map(entries),
     };
     match result {
         Ok([p, q, r, s]) => [0, 0, p, q, r, s],

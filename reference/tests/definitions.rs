@@ -5,7 +5,7 @@ use reference::catalogue::{Axiom, Catalogue, Concept};
 use reference::change::{Change, Edit};
 use reference::expressions::ExpressionSet;
 use reference::random::Random;
-use reference::rounds::{self, Instance, Set};
+use reference::rounds::{self, Instance, Set, partitions};
 use reference::rules::{Expression, Ontology, Rules};
 use reference::saturation::least_set;
 use std::collections::BTreeSet;
@@ -37,15 +37,15 @@ impl Setting {
         Ontology::new(&self.rules, axioms.clone())
     }
 
-    /// Adds the axiom where it isn't in force and withdraws it where it is, on
-    /// the held set, and compares every result with the definitions.
-    fn edit(&self, axioms: &mut BTreeSet<Axiom>, axiom: Axiom, held: &ExpressionSet) -> Change {
-        let old = self.ontology(axioms);
-        let adding = axioms.insert(axiom);
-        if !adding {
-            axioms.remove(&axiom);
-        }
-        let new = self.ontology(axioms);
+    /// Changes the axioms in force to others, on the held set, and compares every
+    /// result with the definitions.
+    fn change(
+        &self,
+        before: &BTreeSet<Axiom>,
+        after: &BTreeSet<Axiom>,
+        held: &ExpressionSet,
+    ) -> Change {
+        let (old, new) = (self.ontology(before), self.ontology(after));
         let rules = &self.rules;
         let edit = Edit {
             rules,
@@ -61,26 +61,43 @@ impl Setting {
             new: &new,
             held: &held,
         };
-        let (change, over, set) = if adding {
-            (edit.add(), Set::new(), by_rounds.add())
-        } else {
-            let over = by_rounds.over_deleted();
-            assert_eq!(plain(&edit.over_deleted()), over);
-            let set = by_rounds.withdraw(&over);
-            (edit.withdraw(), over, set)
-        };
+        let over = by_rounds.over_deleted();
+        assert_eq!(plain(&edit.over_deleted()), over);
+        let set = by_rounds.change(&over);
+        let change = edit.run();
         assert_eq!(plain(&change.set), set);
-        let gained: Set = set.difference(&held).copied().collect();
+        let gained = &set - &held;
         assert_eq!(change.removed, over.len());
         assert_eq!(change.returned, over.intersection(&set).count());
         assert_eq!(change.gained, gained.len());
-        let affected = if adding { &gained } else { &over };
-        assert_eq!(
-            change.touched,
-            affected.iter().map(|x| x.partition()).collect()
-        );
+        let broken = partitions(&over);
+        assert_eq!(change.touched, &broken | &partitions(&gained));
+        // What is added alone or withdrawn alone is changed as document 01 has it.
+        if before.is_subset(after) {
+            assert_eq!((over.len(), set), (0, by_rounds.add()));
+        } else if after.is_subset(before) {
+            assert_eq!(set, by_rounds.withdraw(&over));
+        }
+        if before == after {
+            assert_eq!(plain(&change.set), held);
+        }
         change
     }
+}
+
+/// A subset of the axioms in force, and some others.
+fn any_lists(
+    random: &mut Random,
+    n: usize,
+    axioms: &BTreeSet<Axiom>,
+) -> (BTreeSet<Axiom>, BTreeSet<Axiom>) {
+    let most = [0, 1, 1, 2, 4][random.below(5)];
+    let kept = |_: &&Axiom| random.below(1 + axioms.len()) < most;
+    let out = axioms.iter().filter(kept).copied().collect();
+    let count = [0, 1, 1, 2, 3][random.below(5)];
+    let any = (0..count).map(|_| (random.below(n), random.below(n)));
+    let into = any.filter(|axiom| !axioms.contains(axiom)).collect();
+    (out, into)
 }
 
 /// A set of any content.
@@ -97,20 +114,21 @@ fn any_set(random: &mut Random, catalogue: &Catalogue) -> ExpressionSet {
     set
 }
 
-/// From a right set, edits in a row leave the least set of the axioms then in
+/// From a right set, changes in a row leave the least set of the axioms then in
 /// force, and rows outside the affected partitions as they were.
 #[test]
-fn edits_in_a_row_from_a_right_set() {
+fn changes_in_a_row_from_a_right_set() {
     for seed in 0..400 {
         let random = &mut Random::new(seed);
         let setting = Setting::new(random, 6);
         let n = setting.catalogue.concepts.len();
         let mut axioms: BTreeSet<Axiom> = setting.catalogue.axioms.iter().copied().collect();
         let mut set = least_set(&setting.rules, &setting.ontology(&axioms));
-        for _ in 0..5 {
-            let axiom = (random.below(n), random.below(n));
-            let change = setting.edit(&mut axioms, axiom, &set);
-            let ontology = setting.ontology(&axioms);
+        for _ in 0..6 {
+            let (out, into) = any_lists(random, n, &axioms);
+            let after = &(&axioms - &out) | &into;
+            let change = setting.change(&axioms, &after, &set);
+            let ontology = setting.ontology(&after);
             let fresh = least_set(&setting.rules, &ontology);
             let by_rounds = rounds::least_set(&setting.rules, &setting.instances, &ontology);
             assert_eq!(plain(&fresh), by_rounds, "seed {seed}");
@@ -121,23 +139,24 @@ fn edits_in_a_row_from_a_right_set() {
                     .collect()
             };
             assert_eq!(outside(&set), outside(&fresh), "seed {seed}");
-            set = change.set;
+            (axioms, set) = (after, change.set);
         }
     }
 }
 
-/// From a set of any content, edits do what the definitions say.
+/// From a set of any content, changes do what the definitions say.
 #[test]
-fn edits_from_any_set() {
-    for seed in 1000..2000 {
+fn changes_from_any_set() {
+    for seed in 1000..2500 {
         let random = &mut Random::new(seed);
         let setting = Setting::new(random, 6);
         let n = setting.catalogue.concepts.len();
-        let mut axioms: BTreeSet<Axiom> = setting.catalogue.axioms.iter().copied().collect();
+        let axioms: BTreeSet<Axiom> = setting.catalogue.axioms.iter().copied().collect();
         let set = any_set(random, &setting.catalogue);
-        let axiom = (random.below(n), random.below(n));
-        let change = setting.edit(&mut axioms, axiom, &set);
-        setting.edit(&mut axioms, axiom, &change.set);
+        let (out, into) = any_lists(random, n, &axioms);
+        let after = &(&axioms - &out) | &into;
+        let change = setting.change(&axioms, &after, &set);
+        setting.change(&after, &axioms, &change.set);
     }
 }
 

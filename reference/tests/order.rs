@@ -2,11 +2,10 @@
 //! one, and changes no buffer.
 
 use reference::calls;
-use reference::catalogue::{Concept, Refusal};
+use reference::catalogue::{Concept, Refusal, list};
 use reference::examples;
-use std::collections::BTreeSet;
 
-/// What is lent to a call, and the concepts that it names.
+/// What is lent to a call, the lists of a change, and the concepts that others name.
 #[derive(Clone, PartialEq, Debug)]
 struct Lent {
     catalogue: Vec<u8>,
@@ -14,20 +13,22 @@ struct Lent {
     work: Vec<u8>,
     list: Vec<u8>,
     output: Vec<u8>,
+    withdrawn: Vec<u8>,
+    added: Vec<u8>,
     first: usize,
     second: usize,
 }
 
-const CALLS: [&str; 7] = [
-    "classify", "add", "withdraw", "lookup", "listing", "row", "write",
-];
+const CALLS: [&str; 6] = ["classify", "change", "lookup", "listing", "row", "write"];
 
-/// The questions from 10 on that a call puts.
+/// The questions from 10 on, in their order.
+const ORDER: [usize; 13] = [10, 11, 12, 22, 23, 13, 14, 15, 18, 16, 17, 19, 20];
+
+/// Those that a call puts.
 fn questions(call: &str) -> &'static [usize] {
     match call {
         "classify" => &[10, 11],
-        "add" => &[10, 11, 12, 13, 14, 15, 16, 17],
-        "withdraw" => &[10, 11, 12, 13, 14, 15, 18],
+        "change" => &[10, 11, 12, 22, 23, 13, 14, 15, 18, 16, 17],
         "lookup" | "row" => &[10, 13, 14, 15, 19],
         "listing" => &[10, 12, 13, 14, 15, 19],
         _ => &[10, 13, 14, 20],
@@ -43,14 +44,14 @@ fn refusal(call: &str, lent: &Lent) -> Option<Refusal> {
         work,
         list,
         output,
+        withdrawn,
+        added,
         first,
         second,
     } = &mut after;
-    let axiom = (*first, *second);
     let refusal = match call {
         "classify" => calls::classify(catalogue, store, work).err(),
-        "add" => calls::add(catalogue, axiom, store, work, list).err(),
-        "withdraw" => calls::withdraw(catalogue, axiom, store, work, list).err(),
+        "change" => calls::change(catalogue, withdrawn, added, store, work, list).err(),
         "lookup" => calls::lookup(catalogue, *first, *second, store).err(),
         "listing" => calls::listing(catalogue, *first, store, list).err(),
         "row" => calls::row(catalogue, *first, store).err(),
@@ -71,6 +72,8 @@ fn catalogue_checks_come_first() {
         work: vec![],
         list: vec![],
         output: vec![],
+        withdrawn: vec![0; 261],
+        added: vec![0; 8],
         first: 99,
         second: 99,
     };
@@ -112,67 +115,60 @@ fn full_catalogue() -> Vec<u8> {
     catalogue.bytes()
 }
 
-/// Buffers for that catalogue, in which every question from `from` on is answered
+/// What is lent with that catalogue, so that every question from one on is answered
 /// no, and those before it yes.
-fn failing_from(from: usize, call: &str, classified: &[u8]) -> Lent {
+fn failing_from(question: Option<usize>, call: &str, classified: &[u8]) -> Lent {
+    let place = |question: usize| ORDER.iter().position(|&other| other == question);
+    let wrong = |other: usize| question.is_some_and(|question| place(other) >= place(question));
+    let short = |question: usize| usize::from(wrong(question));
     let catalogue = full_catalogue();
     let mut store = classified.to_vec();
-    let wrong = |question: usize| usize::from(from <= question);
-    if from <= 14 {
+    if wrong(14) {
         store[64 * 9] |= 1;
     }
-    if from <= 13 {
+    if wrong(13) {
         store[2 * 65 * 9 - 1] |= 128;
     }
-    store.truncate(2 * 65 * 9 - wrong(10));
-    // The top is on no side of an axiom; all pairs below 64 are in force.
-    let (first, second) = match (from, call) {
-        (..=15, _) => (64, 65),
-        (16, "add") => (0, 0),
-        _ => (64, 0),
+    store.truncate(2 * 65 * 9 - short(10));
+    // All pairs below 64 are in force.
+    let faulty = |faults: &[(usize, (usize, usize))]| {
+        let faults = faults.iter().filter(|(question, _)| wrong(*question));
+        list(&faults.map(|&(_, axiom)| axiom).collect::<Vec<_>>())
+    };
+    let twice = (23, (64, 0));
+    let added = [(17, (64, 0)), (16, (0, 0)), (15, (0, 65)), twice];
+    let mut added = faulty(&added);
+    added.extend(vec![0; short(22)]);
+    // The top is on no side of an axiom.
+    let (first, second) = match call {
+        "listing" | "row" if wrong(15) => (65, 0),
+        _ => (64, if wrong(15) { 65 } else { 0 }),
     };
     Lent {
         store,
-        work: vec![1; 65 * 9 - wrong(11)],
-        list: vec![1; 2 * 65 - wrong(12)],
-        output: vec![1; catalogue.len() - wrong(20)],
-        first: if from <= 15 && matches!(call, "listing" | "row") {
-            65
-        } else {
-            first
-        },
+        work: vec![1; 65 * 9 - short(11)],
+        list: vec![1; 2 * 65 - short(12)],
+        output: vec![1; catalogue.len() - short(20)],
+        withdrawn: faulty(&[(18, (64, 64))]),
+        added,
+        first,
         second,
         catalogue,
     }
 }
 
-/// Questions 10 to 20.
+/// Questions 10 to 23.
 #[test]
 fn other_checks_in_order() {
     let catalogue = full_catalogue();
     let (_, classified) = calls::classified(&catalogue).expect("an accepted catalogue");
     for call in CALLS {
-        let mut seen = BTreeSet::new();
-        for from in 10..=20 {
-            let expected = questions(call).iter().copied().find(|&q| q >= from);
-            let Some(number) = expected else {
-                break;
-            };
-            let got = refusal(call, &failing_from(from, call, &classified));
-            assert_eq!(
-                got,
-                Some(Refusal { number, record: 0 }),
-                "{call} from {from}"
-            );
-            seen.insert(number);
+        for &number in questions(call) {
+            let got = refusal(call, &failing_from(Some(number), call, &classified));
+            assert_eq!(got, Some(Refusal { number, record: 0 }), "{call}");
         }
-        assert_eq!(
-            seen.into_iter().collect::<Vec<_>>(),
-            questions(call),
-            "{call}"
-        );
     }
-    for call in ["classify", "write"] {
-        assert_eq!(refusal(call, &failing_from(21, call, &classified)), None);
+    for call in ["classify", "change", "write"] {
+        assert_eq!(refusal(call, &failing_from(None, call, &classified)), None);
     }
 }

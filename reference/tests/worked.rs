@@ -1,11 +1,9 @@
-//! The worked examples W1 to W10 of document 01, and those beside them.
+//! The worked examples W1 to W10 of document 01, those of request Four, and
+//! others beside them.
 
 use reference::calls::{self, Changed, Counts};
-use reference::catalogue::{Axiom, Catalogue, Concept, Refusal};
+use reference::catalogue::{Axiom, Catalogue, Concept, Refusal, list};
 use reference::{examples, listing};
-
-/// A call that adds or withdraws an axiom.
-type Edit = fn(&[u8], Axiom, &mut [u8], &mut [u8], &mut [u8]) -> Result<Changed, Refusal>;
 
 /// A catalogue, and buffers for calls on it.
 struct Buffers {
@@ -37,17 +35,30 @@ impl Buffers {
         calls::lookup(&self.catalogue, c, d, &self.store)
     }
 
-    fn edit(&mut self, call: Edit, axiom: Axiom) -> Result<Changed, Refusal> {
+    fn change_by(&mut self, withdrawn: &[u8], added: &[u8]) -> Result<Changed, Refusal> {
         let (store, work, list) = (&mut self.store, &mut self.work, &mut self.list);
-        call(&self.catalogue, axiom, store, work, list)
+        calls::change(&self.catalogue, withdrawn, added, store, work, list)
+    }
+
+    fn change(&mut self, withdrawn: &[Axiom], added: &[Axiom]) -> Result<Changed, Refusal> {
+        self.change_by(&list(withdrawn), &list(added))
     }
 
     fn add(&mut self, left: usize, right: usize) -> Result<Changed, Refusal> {
-        self.edit(calls::add, (left, right))
+        self.change(&[], &[(left, right)])
     }
 
     fn withdraw(&mut self, left: usize, right: usize) -> Result<Changed, Refusal> {
-        self.edit(calls::withdraw, (left, right))
+        self.change(&[(left, right)], &[])
+    }
+
+    /// A change that is accepted: removed, returned and gained, and the touched.
+    fn changed(&mut self, withdrawn: &[Axiom], added: &[Axiom]) -> ([usize; 3], Vec<u16>) {
+        let counts = self.change(withdrawn, added).expect("an accepted change");
+        let listed = self.list.chunks(2).take(counts.touched);
+        let touched = listed.map(|pair| u16::from_le_bytes([pair[0], pair[1]]));
+        let counted = [counts.removed, counts.returned, counts.gained];
+        (counted, touched.collect())
     }
 
     /// Bits set in the store from this byte up to that one.
@@ -150,6 +161,96 @@ fn w7_a_cycle_does_not_hold_itself_up() {
     assert_eq!(lent.list[..2], [0, 0]);
     assert_eq!(lent.marks(3, 6), 5);
     assert_eq!(lent.store[3], 1);
+}
+
+/// Request Four: an axiom moved, and what is left.
+#[test]
+fn w1_moves() {
+    let moves = [
+        ((1, 5), (0, 6), [10, 3, 0], vec![0, 1, 4, 5], (10, 4)),
+        ((0, 4), (2, 4), [5, 0, 5], vec![0, 2], (14, 7)),
+        ((1, 5), (0, 5), [8, 0, 2], vec![0, 1, 4], (10, 5)),
+    ];
+    for (out, into, counts, touched, left) in moves {
+        let (mut lent, _) = Buffers::new(&examples::w1(), 0);
+        let before = lent.store.clone();
+        assert_eq!(lent.changed(&[out], &[into]), (counts, touched));
+        assert_eq!((lent.marks(7, 14), lent.marks(14, 35)), left);
+        lent.changed(&[into], &[out]);
+        assert_eq!(lent.store, before);
+    }
+}
+
+/// A pair that a new axiom derives again is returned, not gained.
+#[test]
+fn w7_a_move() {
+    let (mut lent, _) = Buffers::new(&examples::w7(), 0);
+    assert_eq!(lent.changed(&[(0, 1)], &[(0, 2)]), ([2, 2, 0], vec![0]));
+}
+
+/// Two empty lists change no pair and no link, of a right store and of a wrong one.
+#[test]
+fn empty_lists() {
+    let (mut lent, _) = Buffers::new(&examples::w1(), 2);
+    for (at, mask) in [(0, 0), (7, 2), (20, 2), (0, 2)] {
+        lent.store[at] ^= mask;
+        let (before, list) = (lent.store.clone(), lent.list.clone());
+        lent.work.fill(FILL);
+        assert_eq!(lent.changed(&[], &[]), ([0, 0, 0], vec![]));
+        assert_eq!((&lent.store, &lent.list), (&before, &list));
+        assert_eq!(lent.work[..28], [0; 28]);
+        assert_eq!(lent.work[28..], [FILL; 2]);
+    }
+}
+
+/// The order inside a list is without effect.
+#[test]
+fn permuted_lists() {
+    let (out, into) = ([(0, 4), (1, 5), (6, 3)], [(2, 4), (0, 5), (5, 6), (4, 3)]);
+    let (mut first, _) = Buffers::new(&examples::w1(), 1);
+    let counts = first.change(&out, &into);
+    assert!(counts.is_ok());
+    for turn in 0..12 {
+        let (mut out, mut into) = (out, into);
+        out.rotate_left(turn % 3);
+        into.rotate_left(turn % 4);
+        if turn % 2 == 1 {
+            out.reverse();
+            into.swap(0, 2);
+        }
+        let (mut lent, _) = Buffers::new(&examples::w1(), 1);
+        assert_eq!(lent.change(&out, &into), counts);
+        assert_eq!(lent.store, first.store);
+        assert_eq!(
+            (lent.work, lent.list),
+            (first.work.clone(), first.list.clone())
+        );
+    }
+}
+
+/// Lists of 64 axioms, and longer ones or such that are not of whole axioms.
+#[test]
+fn long_lists() {
+    let catalogue = Catalogue {
+        concepts: vec![Concept::Atomic; 66],
+        axioms: vec![],
+        ..examples::w7()
+    };
+    let (mut lent, _) = Buffers::new(&catalogue, 0);
+    let before = lent.store.clone();
+    let axioms: Vec<Axiom> = (0..65).map(|i| (i, i + 1)).collect();
+    assert_eq!(lent.change(&[], &axioms), Err(refusal(22)));
+    assert_eq!(lent.change(&axioms, &[]), Err(refusal(22)));
+    let bytes = list(&axioms);
+    for length in [1, 2, 3, 5, 255, 257, 258, 259] {
+        assert_eq!(lent.change_by(&bytes[..length], &[]), Err(refusal(22)));
+        assert_eq!(lent.change_by(&[], &bytes[..length]), Err(refusal(22)));
+    }
+    assert_eq!(lent.store, before);
+    lent.changed(&[], &axioms[..64]);
+    lent.changed(&axioms[..64], &axioms[64..]);
+    lent.changed(&axioms[64..], &[]);
+    assert_eq!(lent.store, before);
 }
 
 #[test]
@@ -296,6 +397,13 @@ fn w10_at_most_4096_axioms() {
     let before = lent.store.clone();
     assert_eq!(lent.add(3, 5), Err(refusal(16)));
     assert_eq!(lent.add(64, 0), Err(refusal(17)));
+    let two = [(64, 0), (64, 1)];
+    assert_eq!(lent.change(&[(3, 5)], &two), Err(refusal(17)));
+    assert_eq!(lent.store, before);
+    // One out and one in.
+    lent.changed(&[(3, 5)], &two[..1]);
+    assert_eq!(lent.lookup(64, 3), Ok(true));
+    lent.changed(&two[..1], &[(3, 5)]);
     assert_eq!(lent.store, before);
     // One axiom more than the limit, marked by hand in the row of concept 64.
     lent.store[64 * 9] = 1;

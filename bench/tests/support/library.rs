@@ -4,7 +4,7 @@
 use bench::calls;
 use bench::exported::{self, ENTRIES, SHORT_ANSWER};
 use reference::calls::{self as other, Changed, Counts, Row};
-use reference::catalogue::{Axiom, Catalogue, Refusal};
+use reference::catalogue::{Catalogue, Refusal};
 
 /// What an answer's entries hold before a call.
 const MARK: u64 = 0xa5a5_a5a5_a5a5_a5a5;
@@ -46,52 +46,24 @@ pub fn classify(catalogue: &[u8], store: &mut [u8], work: &mut [u8]) -> Result<C
     result
 }
 
-/// An exported edit: catalogue, axiom, store, work space, list, answer.
-type Exported = fn(&[u8], Axiom, &mut [u8], &mut [u8], &mut [u8], &mut [u64]) -> usize;
-
-/// The same with its result.
-pub type Edit = fn(&[u8], Axiom, &mut [u8], &mut [u8], &mut [u8]) -> Result<Changed, Refusal>;
-
-fn edit(
-    (exported, call): (Exported, Edit),
+pub fn change(
     catalogue: &[u8],
-    axiom: Axiom,
+    withdrawn: &[u8],
+    added: &[u8],
     store: &mut [u8],
     work: &mut [u8],
     list: &mut [u8],
 ) -> Result<Changed, Refusal> {
     let (probed, buffers) = probe([&*store, &*work, &*list], |[store, work, list], answer| {
-        exported(catalogue, axiom, store, work, list, answer)
+        exported::change(catalogue, withdrawn, added, store, work, list, answer)
     });
-    let result = call(catalogue, axiom, store, work, list);
+    let result = calls::change(catalogue, withdrawn, added, store, work, list);
     assert_eq!(
         probed,
         result.map(|c| [c.removed, c.returned, c.gained, c.touched])
     );
     assert!(buffers == [&*store, &*work, &*list], "the same again");
     result
-}
-
-pub fn add(
-    catalogue: &[u8],
-    axiom: Axiom,
-    store: &mut [u8],
-    work: &mut [u8],
-    list: &mut [u8],
-) -> Result<Changed, Refusal> {
-    let both = (exported::add as Exported, calls::add as Edit);
-    edit(both, catalogue, axiom, store, work, list)
-}
-
-pub fn withdraw(
-    catalogue: &[u8],
-    axiom: Axiom,
-    store: &mut [u8],
-    work: &mut [u8],
-    list: &mut [u8],
-) -> Result<Changed, Refusal> {
-    let both = (exported::withdraw as Exported, calls::withdraw as Edit);
-    edit(both, catalogue, axiom, store, work, list)
 }
 
 pub fn lookup(catalogue: &[u8], c: usize, d: usize, store: &[u8]) -> Result<bool, Refusal> {

@@ -8,13 +8,12 @@ use lib.ListN.{length}
 use lib.Seq.{take-length, drop-length}
 use Rattle.catalogue.specs.Outcome.{accepted}
 use Rattle.rules.specs.Axioms.{Axioms, catalogueAxioms, none}
-use Rattle.derivation.specs.declared.Mode.{Mode}
 use Rattle.edits.specs.Edits.{Lent, lend, lengths, Edits}
 use Rattle.edits.specs.declared.Changed.{Changed}
 use Rattle.classification.specs.Classified.{classifyChecks, Classifies}
 use Rattle.classification.specs.declared.Classified.{Classified}
 use Rattle.classification.proofs.Outcomes.{answer-outcome}
-use Rattle.demands.specs.Sequences.{classify, edit, classified, changed, Turn, classifies, edits, RunsOn, nothing, first, Sequence, questions, puts, asked, afterCalls, inForceAfter, AfterCalls}
+use Rattle.demands.specs.Sequences.{classify, change, classified, changed, Turn, classifies, changes, RunsOn, nothing, first, Sequence, questions, puts, asked, afterCalls, inForceAfter, AfterCalls}
 use Rattle.demands.proofs.FreshStores.{FreshStore}
 use Rattle.demands.proofs.DemandThree.{expected-same, after-accepted, sequence-correct}
 
@@ -24,10 +23,10 @@ after-calls P f b store t ts last s F e = f b F last (subst (λ (G : Axioms). Fr
 
 -- ---- turns that are lent the whole store
 
-unfoldable pub editTurn : (m : Mode) (b : List ℕ) (l r : ℕ) (u : Lent) (answer : Changed) (v : Lent) → Turn
-editTurn m b l r u answer v =
+unfoldable pub changeTurn : (b gone new : List ℕ) (u : Lent) (answer : Changed) (v : Lent) → Turn
+changeTurn b gone new u answer v =
     record {
-      call = record { request = edit m l r; catalogue = b; lent = lengths u };
+      call = record { request = change gone new; catalogue = b; lent = lengths u };
       work = u .work;
       list = u .list;
       answer = changed answer;
@@ -36,13 +35,13 @@ editTurn m b l r u answer v =
       store-after = v .store;
     }
 
-pub edit-runs : (m : Mode) (b : List ℕ) (l r : ℕ) (u : Lent) (answer : Changed) (v : Lent) → Edits m b l r u answer v → RunsOn (u .store) (editTurn m b l r u answer v)
-unfolding editTurn
-edit-runs m b l r u answer v call =
+pub change-runs : (b gone new : List ℕ) (u : Lent) (answer : Changed) (v : Lent) → Edits b gone new u answer v → RunsOn (u .store) (changeTurn b gone new u answer v)
+unfolding changeTurn
+change-runs b gone new u answer v call =
     record {
       lent-is = ap (λ (l : List ℕ). record { store = length l; work = length (u .work); list = length (u .list) }) (take-length (u .store));
       front = v .store;
-      contract = edits (subst (λ (s : List ℕ). Edits m b l r (lend s (u .work) (u .list)) answer v) (sym (take-length (u .store))) call);
+      contract = changes (subst (λ (s : List ℕ). Edits b gone new (lend s (u .work) (u .list)) answer v) (sym (take-length (u .store))) call);
       store-is = sym (ap (λ (l : List ℕ). v .store ++ l) (drop-length (u .store)) ∙ append-nil (v .store));
     }
 

@@ -16,7 +16,7 @@ use Rattle.layout.specs.Parts.{workUsed}
 use Rattle.store.proofs.Work.{work-stays}
 use Rattle.classification.proofs.Outcomes.{answer-outcome}
 use Rattle.edits.specs.Edits.{Lent}
-use Rattle.edits.proofs.Outcomes.{answer-outcome as edit-answer}
+use Rattle.edits.proofs.Outcomes.{answer-outcome as change-answer}
 use Rattle.writing.specs.Write.{ByOutcome, wrote, stays}
 use Rattle.writing.specs.declared.Wrote.{Wrote}
 use Rattle.lookups.specs.Answers.{looked, lookedUp}
@@ -24,11 +24,11 @@ use Rattle.lookups.specs.Checks.{readChecks, listChecks}
 use Rattle.lookups.specs.Listings.{kindsUnder, listed, listAfter}
 use Rattle.lookups.specs.Rows.{handed, rowAnswer}
 use Rattle.lookups.proofs.DemandEntries.{listing-finds}
-use Rattle.demands.specs.PublicCalls.{PublicCall, classify, edit, lookup, listing, row, write, lookupOutcome, listOutcome, rowOutcome, writeOutcome}
-use Rattle.demands.specs.PublicCalls.{Returns, classifies, edits, looks-up, lists, hands-out, writes}
+use Rattle.demands.specs.PublicCalls.{PublicCall, classify, change, lookup, listing, row, write, lookupOutcome, listOutcome, rowOutcome, writeOutcome}
+use Rattle.demands.specs.PublicCalls.{Returns, classifies, changes, looks-up, lists, hands-out, writes}
 use Rattle.demands.specs.DemandOne.{Fault, damagedCatalogue, Wrong, refusal, faults, ByFirst, none, here, later, Kept, RefusedFirst, DemandOne}
 use Rattle.demands.proofs.AfterCalls.{after-calls}
-use Rattle.demands.proofs.Questions.{classify-asked, edit-asked, read-asked, listing-asked, write-asked}
+use Rattle.demands.proofs.Questions.{classify-asked, change-asked, read-asked, listing-asked, write-asked}
 
 -- ---- the numbers of a damaged catalogue
 
@@ -63,7 +63,7 @@ nine-questions b =
 -- Every call asks about the catalogue first.
 after-catalogue : (c : PublicCall) → (fs : List Fault) × (faults c ≡ damagedCatalogue ∷ fs)
 after-catalogue classify = (_, refl)
-after-catalogue (edit m l r) = (_, refl)
+after-catalogue (change gone new) = (_, refl)
 after-catalogue (lookup c d) = (_, refl)
 after-catalogue (listing d) = (_, refl)
 after-catalogue (row c) = (_, refl)
@@ -148,9 +148,9 @@ calls b u c o v (classifies {a = a} {store = store} {work = work} call) =
     (λ number at e.
     let r = call .refuses number at (sym answer ∙ e) in
     record { store = r .store-kept; work = r .work-kept; list = refl })
-calls b u c o v (edits {m = m} {l = l} {r = r} {a = a} call) =
-    let answer = edit-answer m b l r u a v call in
-    refused-first b u c o v (subst (ByFirst b u (faults c)) (sym answer) (edit-asked b u m l r))
+calls b u c o v (changes {gone = gone} {new = new} {a = a} call) =
+    let answer = change-answer b gone new u a v call in
+    refused-first b u c o v (subst (ByFirst b u (faults c)) (sym answer) (change-asked b u gone new))
     (λ number at e.
     let k = call .refuses number at (sym answer ∙ e) in
     record { store = k .store-kept; work = k .work-kept; list = k .list-kept })

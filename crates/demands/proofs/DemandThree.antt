@@ -1,5 +1,5 @@
--- Demand 3: for every list of classify, add and withdraw calls that begins with an accepted classify, the calls refuse where their arguments alone say, and
--- the store is classified afresh from the axioms then in force.
+-- Demand 3: for every list of classify and change calls that begins with an accepted classify, the calls refuse where their arguments alone say, and the
+-- store is classified afresh from the axioms then in force.
 use Prim.Native.Nat.{ℕ}
 use native.Mathlib.Decide.{ℕ-discrete}
 use native.Mathlib.Omega.{arith}
@@ -68,7 +68,7 @@ module _ (b : List ℕ) (F : Axioms) (store : List ℕ) (t : Turn) (known : Know
           keeps = known .keeps;
           rest = known .rest e o;
           fresh = left .fresh;
-          changes = λ m l r q p. known .changes e o m l r q;
+          changes = λ gone new q p. known .changes e o gone new q;
         },
         left,
       )
@@ -87,7 +87,7 @@ module _ (b : List ℕ) (F : Axioms) (store : List ℕ) (t : Turn) (known : Know
               keeps = known .keeps;
               rest = ap (drop (used b)) kept;
               fresh = left .fresh;
-              changes = λ m l r q p. let z : _≡_ {A = ℕ} 0 1 = cc in absurd (omega arith);
+              changes = λ gone new q p. let z : _≡_ {A = ℕ} 0 1 = cc in absurd (omega arith);
             },
             left,
           )

@@ -1,47 +1,54 @@
 -- A list of calls by the contracts, so that what demand 3 asks can be met: W1 is classified, (1, 5) is withdrawn (W3), the same is refused with a catalogue of
--- 19 bytes and then as not in force, and it is added back (W5).
-use Prim.Native.Nat.{ℕ}
+-- 19 bytes and then as not in force, it is added back (W5), and one change moves it: (1, 5) out and (0, 6) in.
+use Prim.Native.Nat.{ℕ, _≤_}
 use native.Mathlib.Omega.{arith}
 use mathlib.Core.Path.{_≡_, refl, sym, subst, _∙_}
-use mathlib.Core.Bool.{true}
-use mathlib.Core.Logic.{⊎-elim, Iff·trans}
+use mathlib.Core.Bool.{true, false}
+use mathlib.Core.Logic.{⊎-elim}
 use mathlib.Core.List.{List, [], _∷_, List·Memᴰ, List·Memᴰ·not-nil, List·Memᴰ·cases-cons}
-use lib.ListN.{replicate}
-use borrow.Author.Tests.{lt-ltb}
+use lib.ListN.{length, drop, replicate}
 use Rattle.catalogue.specs.Words.{word, bytesOf}
 use Rattle.catalogue.specs.Header.{concepts, roles}
 use Rattle.catalogue.specs.Outcome.{accepted}
 use Rattle.catalogue.specs.Examples.{w1}
-use Rattle.catalogue.proofs.Examples.{nineteen-bytes}
-use Rattle.derivation.specs.declared.Mode.the-variants.{Add, Delete}
-use Rattle.rules.specs.Axioms.{Axioms}
-use Rattle.rules.specs.Rules.{Closure}
+use Rattle.catalogue.proofs.Examples.{w1-well-formed, nineteen-bytes}
+use Rattle.rules.specs.Axioms.{Axioms, InRange}
 use Rattle.layout.specs.Parts.{width, used, workUsed}
-use Rattle.store.specs.Checks.{every, storeFits, workFits, listFits, hasRoom}
 use Rattle.store.specs.Written.{axiomCount}
 use Rattle.store.specs.Fresh.{Fresh}
 use Rattle.store.specs.Work.{zeroed}
-use Rattle.store.specs.Changes.{withdrawChecks}
-use Rattle.store.proofs.Examples.{w1-axiom-count}
-use Rattle.store.proofs.Changes.{Passed, refused-catalogue, withdraw-accepted, refused-absent, add-accepted}
+use Rattle.store.proofs.Examples.{w1-lengths, w1-axiom-count}
 use Rattle.lists.specs.Lists.{withFront}
 use Rattle.classification.specs.declared.Classified.the-variants as classifying
-use Rattle.edits.specs.Edits.{edited, Listed, gaining, broken, Lent, lend, editChecks, asked, Edits}
+use Rattle.edits.specs.Lists.{edited}
+use Rattle.edits.specs.Edits.{Lent, lend, asked, Edits}
 use Rattle.edits.specs.declared.Changed.the-variants.{Done, Refused}
+use Rattle.edits.proofs.Asking.{Passed, rest-passed, passed-rest, refused-catalogue, refused-absent}
 use Rattle.edits.proofs.Checks.{asked-by-axioms}
-use Rattle.edits.proofs.Members.{listed-members}
-use Rattle.edits.proofs.Sets.{listed-gaining, listed-broken}
 use Rattle.edits.proofs.Outcomes.{ends-refused, ends-fresh}
 use Rattle.worked.specs.Stores.{w1Store, w3Store}
-use Rattle.worked.specs.Table.{axioms1, axioms3, axioms5}
+use Rattle.worked.specs.Entries.{Changed}
+use Rattle.worked.specs.Table.{axioms1, axioms3, moved1}
 use Rattle.worked.proofs.Worked.{worked}
-use Rattle.worked.proofs.Reading.{w3-axiom-count}
-use Rattle.worked.proofs.EditedExamples.{in-force15, withdrawn15, w5-axioms, rises1}
+use Rattle.worked.proofs.Stores.{otherAxiom, otherExpression, otherByte, fresh-computed}
+use Rattle.worked.proofs.Editing.{listsAsked, changed-in-range, change-asked}
+use Rattle.worked.proofs.Reading.{w3-axiom-count, seven}
+use Rattle.worked.proofs.W1.{range1}
+use Rattle.worked.proofs.W3.{w3-asks, w5-asks}
+use Rattle.worked.proofs.Moves.{move1-asks}
+use Rattle.worked.proofs.EditedExamples.{withdrawn15}
 use Rattle.demands.specs.Sequences.{outcomeOf, Turn, nothing, first, Sequence}
-use Rattle.demands.proofs.AfterCalls.{editTurn, edit-runs, classifyTurn, classify-runs}
+use Rattle.demands.proofs.AfterCalls.{changeTurn, change-runs, classifyTurn, classify-runs}
 use Rattle.demands.proofs.Examples.{w1-asked, w1-classifies, w1Turn}
 
 -- ---- what is lent, and what is left
+
+-- Two lists of one axiom.
+abbrev pub axiom15 : List ℕ
+axiom15 = 1 ∷ 0 ∷ 5 ∷ 0 ∷ []
+
+abbrev pub axiom06 : List ℕ
+axiom06 = 0 ∷ 0 ∷ 6 ∷ 0 ∷ []
 
 -- A store, a work space of 28 zeros, and a list of 14.
 unfoldable pub lent : (store : List ℕ) → Lent
@@ -51,120 +58,137 @@ lent store = lend store (replicate 28 0) (replicate 14 0)
 unfoldable pub left : (store : List ℕ) → Lent
 left store = lend store (replicate 28 0) (0 ∷ 0 ∷ 1 ∷ 0 ∷ 4 ∷ 0 ∷ 5 ∷ 0 ∷ replicate 6 0)
 
--- 1 to 15 are answered yes.
-passed : Passed w1 1 5 (record { store = 35; work = 28; list = 14 }) true true
-unfolding w1 word concepts roles width used workUsed storeFits workFits listFits every
-passed =
-    record {
-      catalogue = worked .W1-accepted;
-      store-fits = refl;
-      work-fits = refl;
-      list-fits = refl;
-      spare-clear = refl;
-      limit-kept = refl;
-      numbers = refl;
-    }
+-- The store after the move, classified afresh.
+unfoldable pub movedStore : List ℕ
+movedStore =
+    80 ∷ 0 ∷ 0 ∷ 0 ∷ 0 ∷ 0 ∷ 8 ∷
+    89 ∷ 2 ∷ 4 ∷ 8 ∷ 16 ∷ 0 ∷ 72 ∷
+    2 ∷ 0 ∷ 4 ∷ 0 ∷ 0 ∷ 0 ∷ 0 ∷ 0 ∷ 0 ∷ 0 ∷ 0 ∷ 0 ∷ 2 ∷ 0 ∷ 0 ∷ 0 ∷ 0 ∷ 0 ∷ 0 ∷ 0 ∷ 4 ∷ []
+
+moved-long : length movedStore ≡ 35
+unfolding movedStore
+moved-long = refl
+
+moved-axioms : otherAxiom w1 moved1 movedStore ≡ false
+unfolding otherAxiom w1 movedStore
+moved-axioms = refl
+
+moved-set : otherExpression w1 moved1 movedStore ≡ false
+unfolding otherExpression w1 movedStore
+moved-set = refl
+
+moved-bytes : otherByte w1 movedStore ≡ false
+unfolding otherByte w1 movedStore
+moved-bytes = refl
+
+moved-fresh : Fresh w1 moved1 movedStore
+moved-fresh =
+    let range : InRange w1 moved1 = changed-in-range w1 axiom15 axiom06 axioms1 move1-asks range1 in
+    fresh-computed w1 moved1 movedStore w1-well-formed range (omega (arith, w1-lengths .0, moved-long)) moved-axioms moved-set moved-bytes
 
 -- ---- the calls
 
-w3-asked : asked Delete w1 1 5 (lent w1Store) ≡ accepted
-unfolding lent w1Store editChecks
-w3-asked =
-    asked-by-axioms Delete w1 axioms1 1 5 (lent w1Store) (worked .W1-fresh) (omega (arith, w1-axiom-count))
-    ∙ withdraw-accepted w1 1 5 (record { store = 35; work = 28; list = 14 }) true true axioms1 passed in-force15
+few1 : axiomCount w1 axioms1 ≤ 4096
+few1 = omega (arith, w1-axiom-count)
 
-w3-edits : Edits Delete w1 1 5 (lent w1Store) (Done 10 0 0 4) (left w3Store)
-unfolding edited lent left w1 word concepts roles width used workUsed w1Store w3Store zeroed withFront bytesOf
-w3-edits =
-    ends-fresh Delete w1 1 5 axioms1 (lent w1Store) (0 ∷ 1 ∷ 4 ∷ 5 ∷ []) (Done 10 0 0 4) (left w3Store) (worked .W1-fresh) w3-asked
-    (record {
-      answers = refl;
-      effects =
-          record {
-            removed-counted = worked .W3 .removed-right;
-            returned-counted = worked .W3 .returned-right;
-            gained-counted = worked .W3 .gained-right;
-            listed =
-                listed-members (concepts w1) (Listed w1 axioms1 axioms3 (Closure w1 axioms1) Delete) (0 ∷ 1 ∷ 4 ∷ 5 ∷ []) rises1
-                (λ c. Iff·trans (worked .W3 .broken-right c) (broken, listed-broken));
-            touched-counted = refl;
-          };
-      fresh = worked .W3-fresh;
-      store-rest = refl;
-      work-zero = refl;
-      list-is = refl;
-    })
+few3 : axiomCount w1 axioms3 ≤ 4096
+few3 = omega (arith, w3-axiom-count)
 
--- Refused by 1, with 19 bytes as the catalogue; and by 18.
-bad-edits : Edits Delete (replicate 19 0) 1 5 (lent w3Store) (Refused 1 0) (lent w3Store)
-unfolding asked editChecks withdrawChecks
-bad-edits = ends-refused Delete (replicate 19 0) 1 5 (lent w3Store) 1 0 (refused-catalogue (replicate 19 0) 1 5 _ _ _ _ (nineteen-bytes (replicate 19 0) refl))
+-- Each accepted change of the list touches 0, 1, 4 and 5.
+module _ (gone new : List ℕ) (F : Axioms) (asks : listsAsked w1 gone new F ≡ accepted) (few : axiomCount w1 F ≤ 4096) (store : List ℕ) (fresh : Fresh w1 F store) where
+  accepted-asked : asked w1 gone new (lent store) ≡ accepted
+  unfolding lent
+  accepted-asked =
+      change-asked w1 gone new F asks (worked .W1-accepted) few (lent store) fresh (omega (arith, w1-lengths .1)) (omega (arith, seven))
 
-absent-edits : Edits Delete w1 1 5 (lent w3Store) (Refused 18 0) (lent w3Store)
-unfolding lent w3Store editChecks
+  accepted-edits : (x y z : ℕ) (broken gaining after : List ℕ) → Changed w1 F (edited F gone new) x y z broken gaining (0 ∷ 1 ∷ 4 ∷ 5 ∷ [])
+      → Fresh w1 (edited F gone new) after → drop 35 after ≡ drop 35 store → Edits w1 gone new (lent store) (Done x y z 4) (left after)
+  unfolding lent left w1 word concepts roles width used workUsed zeroed withFront bytesOf
+  accepted-edits x y z broken gaining after c fresh-after rest =
+      ends-fresh w1 gone new F (lent store) (0 ∷ 1 ∷ 4 ∷ 5 ∷ []) (Done x y z 4) (left after) fresh accepted-asked
+      (record {
+        answers = refl;
+        effects =
+            record {
+              removed-counted = c .removed-right;
+              returned-counted = c .returned-right;
+              gained-counted = c .gained-right;
+              listed = c .touched-right;
+              touched-counted = refl;
+            };
+        fresh = fresh-after;
+        store-rest = rest;
+        work-zero = refl;
+        list-is = refl;
+      })
+
+w3-edits : Edits w1 axiom15 [] (lent w1Store) (Done 10 0 0 4) (left w3Store)
+unfolding w1Store w3Store
+w3-edits = accepted-edits axiom15 [] axioms1 w3-asks few1 w1Store (worked .W1-fresh) 10 0 0 _ _ w3Store (worked .W3) (worked .W3-fresh) refl
+
+-- Refused by 1, with 19 bytes as the catalogue; and by 18: what W3 passed up to 15 is passed again.
+bad-edits : Edits (replicate 19 0) axiom15 [] (lent w3Store) (Refused 1 0) (lent w3Store)
+unfolding asked
+bad-edits = ends-refused (replicate 19 0) axiom15 [] (lent w3Store) 1 0 (refused-catalogue (replicate 19 0) axiom15 [] _ _ _ _ (nineteen-bytes (replicate 19 0) refl))
+
+w3-passed : Passed w1 axiom15 [] (record { store = 35; work = 28; list = 14 }) true true
+unfolding lent w1Store
+w3-passed =
+    rest-passed w1 axiom15 [] (record { store = 35; work = 28; list = 14 }) true true axioms1
+    (sym (asked-by-axioms w1 axioms1 axiom15 [] (lent w1Store) (worked .W1-fresh) few1) ∙ accepted-asked axiom15 [] axioms1 w3-asks few1 w1Store (worked .W1-fresh))
+    .0
+
+absent-edits : Edits w1 axiom15 [] (lent w3Store) (Refused 18 0) (lent w3Store)
+unfolding lent w3Store
 absent-edits =
-    ends-refused Delete w1 1 5 (lent w3Store) 18 0
-    (asked-by-axioms Delete w1 axioms3 1 5 (lent w3Store) (worked .W3-fresh) (omega (arith, w3-axiom-count))
-    ∙ refused-absent w1 1 5 (record { store = 35; work = 28; list = 14 }) true true axioms3 passed withdrawn15)
+    ends-refused w1 axiom15 [] (lent w3Store) 18 0
+    (asked-by-axioms w1 axioms3 axiom15 [] (lent w3Store) (worked .W3-fresh) few3
+    ∙ passed-rest w1 axiom15 [] (record { store = 35; work = 28; list = 14 }) true true axioms3 w3-passed
+    ∙ refused-absent w1 axiom15 [] axioms3 withdrawn15)
 
-w5-asked : asked Add w1 1 5 (lent w3Store) ≡ accepted
-unfolding lent w3Store editChecks hasRoom
-w5-asked =
-    asked-by-axioms Add w1 axioms3 1 5 (lent w3Store) (worked .W3-fresh) (omega (arith, w3-axiom-count))
-    ∙ add-accepted w1 1 5 (record { store = 35; work = 28; list = 14 }) true true axioms3 passed withdrawn15 (lt-ltb (axiomCount w1 axioms3) 4096 (omega (arith, w3-axiom-count)))
-
-w5-edits : Edits Add w1 1 5 (lent w3Store) (Done 0 0 10 4) (left w1Store)
-unfolding edited lent left w1 word concepts roles width used workUsed w1Store w3Store zeroed withFront bytesOf
+w5-edits : Edits w1 [] axiom15 (lent w3Store) (Done 0 0 10 4) (left w1Store)
+unfolding w1Store w3Store
 w5-edits =
-    ends-fresh Add w1 1 5 axioms3 (lent w3Store) (0 ∷ 1 ∷ 4 ∷ 5 ∷ []) (Done 0 0 10 4) (left w1Store) (worked .W3-fresh) w5-asked
-    (record {
-      answers = refl;
-      effects =
-          record {
-            removed-counted = worked .W5 .removed-right;
-            returned-counted = worked .W5 .returned-right;
-            gained-counted = worked .W5 .gained-right;
-            listed =
-                listed-members (concepts w1) (Listed w1 axioms3 axioms5 (Closure w1 axioms3) Add) (0 ∷ 1 ∷ 4 ∷ 5 ∷ []) rises1
-                (λ c. Iff·trans (worked .W5 .gaining-right c) (gaining, listed-gaining));
-            touched-counted = refl;
-          };
-      fresh = subst (λ (F : Axioms). Fresh w1 F w1Store) (sym w5-axioms) (worked .W1-fresh);
-      store-rest = refl;
-      work-zero = refl;
-      list-is = refl;
-    })
+    accepted-edits [] axiom15 axioms3 w5-asks few3 w3Store (worked .W3-fresh) 0 0 10 _ _ w1Store (worked .W5)
+    (subst (λ (F : Axioms). Fresh w1 F w1Store) (sym (worked .W5-back .0)) (worked .W1-fresh)) refl
+
+move-edits : Edits w1 axiom15 axiom06 (lent w1Store) (Done 10 3 0 4) (left movedStore)
+unfolding w1Store movedStore
+move-edits = accepted-edits axiom15 axiom06 axioms1 move1-asks few1 w1Store (worked .W1-fresh) 10 3 0 _ _ movedStore (worked .W1-move1) moved-fresh refl
 
 -- ---- the list
 
 unfoldable pub later : List Turn
 later =
-    editTurn Delete w1 1 5 (lent w1Store) (Done 10 0 0 4) (left w3Store)
-    ∷ editTurn Delete (replicate 19 0) 1 5 (lent w3Store) (Refused 1 0) (lent w3Store)
-    ∷ editTurn Delete w1 1 5 (lent w3Store) (Refused 18 0) (lent w3Store)
-    ∷ editTurn Add w1 1 5 (lent w3Store) (Done 0 0 10 4) (left w1Store)
+    changeTurn w1 axiom15 [] (lent w1Store) (Done 10 0 0 4) (left w3Store)
+    ∷ changeTurn (replicate 19 0) axiom15 [] (lent w3Store) (Refused 1 0) (lent w3Store)
+    ∷ changeTurn w1 axiom15 [] (lent w3Store) (Refused 18 0) (lent w3Store)
+    ∷ changeTurn w1 [] axiom15 (lent w3Store) (Done 0 0 10 4) (left w1Store)
+    ∷ changeTurn w1 axiom15 axiom06 (lent w1Store) (Done 10 3 0 4) (left movedStore)
     ∷ []
 
 -- A member of a list is its first, or one of the others.
 member : (P : Turn → Type 0) (t : Turn) (ts : List Turn) → P t → ((x : Turn) → List·Memᴰ x ts → P x) → (x : Turn) → List·Memᴰ x (t ∷ ts) → P x
 member P t ts p more x m = ⊎-elim (λ e. subst P (sym e) p) (more x) (List·Memᴰ·cases-cons m)
 
-pub w1-sequence : Sequence w1 (replicate 35 0) w1Turn later w1Store
-unfolding later lent left editTurn classifyTurn
+pub w1-sequence : Sequence w1 (replicate 35 0) w1Turn later movedStore
+unfolding later lent left changeTurn classifyTurn
 w1-sequence =
     let P : Turn → Type 0 = λ x. outcomeOf (x .answer) ≡ accepted → x .call .catalogue ≡ w1 in
     record {
       ran =
           first (classify-runs w1 (replicate 35 0) (replicate 28 0) (classifying.Done 14 7) w1Store (replicate 28 0) w1-classifies w1-asked)
-          (first (edit-runs Delete w1 1 5 (lent w1Store) (Done 10 0 0 4) (left w3Store) w3-edits)
-          (first (edit-runs Delete (replicate 19 0) 1 5 (lent w3Store) (Refused 1 0) (lent w3Store) bad-edits)
-          (first (edit-runs Delete w1 1 5 (lent w3Store) (Refused 18 0) (lent w3Store) absent-edits)
-          (first (edit-runs Add w1 1 5 (lent w3Store) (Done 0 0 10 4) (left w1Store) w5-edits) nothing))));
+          (first (change-runs w1 axiom15 [] (lent w1Store) (Done 10 0 0 4) (left w3Store) w3-edits)
+          (first (change-runs (replicate 19 0) axiom15 [] (lent w3Store) (Refused 1 0) (lent w3Store) bad-edits)
+          (first (change-runs w1 axiom15 [] (lent w3Store) (Refused 18 0) (lent w3Store) absent-edits)
+          (first (change-runs w1 [] axiom15 (lent w3Store) (Done 0 0 10 4) (left w1Store) w5-edits)
+          (first (change-runs w1 axiom15 axiom06 (lent w1Store) (Done 10 3 0 4) (left movedStore) move-edits) nothing)))));
       begins = refl;
       begins-accepted = refl;
       one-catalogue =
           member P _ _ (λ o. refl)
           (member P _ _ (λ o. refl)
           (member P _ _ (λ o. let z : _≡_ {A = ℕ} 0 1 = cc in absurd (omega arith))
-          (member P _ _ (λ o. refl) (member P _ _ (λ o. refl) (λ x m. absurd (List·Memᴰ·not-nil m))))));
+          (member P _ _ (λ o. refl)
+          (member P _ _ (λ o. refl) (member P _ _ (λ o. refl) (λ x m. absurd (List·Memᴰ·not-nil m)))))));
     }

@@ -19,7 +19,7 @@ use Rattle.classification.specs.Classified.{classifyChecks, Classifies}
 use Rattle.classification.specs.declared.Classified.{Classified}
 use Rattle.classification.proofs.Checks.{accepted-fits}
 
--- Catalogue b is accepted, and the store is classified afresh from F, at most 4,096 axioms: what lookup, listing, row, write and the edits ask of it.
+-- Catalogue b is accepted, and the store is classified afresh from F, at most 4,096 axioms: what lookup, listing, row, write and change ask of it.
 pub record FreshStore (b : List ℕ) (F : ℕ → ℕ → Bool) (store : List ℕ) : Type 0 where
   pub catalogue : checked b ≡ accepted
   pub well-formed : WellFormed b

@@ -1,17 +1,16 @@
 -- A call's questions are answered in order: the first no is the first fault that is there.
-use Prim.Native.Nat.{ℕ, _+_, _-_, _*_, _≤_, _<_}
+use Prim.Native.Nat.{ℕ, _+_, _-_, _*_, _%_, _≤_, _<_}
 use native.Mathlib.Omega.{arith}
 use mathlib.Core.Path.{_≡_, refl, sym, subst, _∙_}
-use mathlib.Core.Bool.{Bool, true, false, not}
-use mathlib.Core.List.{List, [], _∷_, List·Memᴰ, List·Memᴰ·head, List·Memᴰ·tail}
-use lib.Dec.{leb, ltb}
+use mathlib.Core.Bool.{Bool, true, false, not, _&&_}
+use mathlib.Core.Logic.{_⊎_, inl, inr, ⊎-elim}
+use mathlib.Core.List.{List, [], _∷_, _++_, List·Memᴰ, List·Memᴰ·head, List·Memᴰ·tail}
+use lib.Dec.{leb, ltb, eqb}
 use lib.ListN.{length}
-use borrow.Author.Tests.{leb-true, leb-false, ltb-true, ltb-false, not-false}
-use Rattle.booleans.proofs.Booleans.{by-bool, not-both}
+use borrow.Author.Tests.{leb-true, leb-false, ltb-true, ltb-false, eq-eqb, not-true, not-false}
+use Rattle.booleans.proofs.Booleans.{by-bool, not-both, not-true-false, and-left, and-right, and-both}
 use Rattle.rows.specs.Bits.{bit, place}
-use Rattle.rows.proofs.Counting.{some-which}
-use Rattle.derivation.specs.declared.Mode.{Mode}
-use Rattle.derivation.specs.declared.Mode.the-variants.{Add, Delete}
+use Rattle.rows.proofs.Counting.{some-which, none-below}
 use Rattle.derivation.proofs.Finite.{each-true}
 use Rattle.catalogue.specs.Header.{concepts}
 use Rattle.catalogue.specs.Outcome.{Outcome, accepted, refused, ask}
@@ -25,18 +24,20 @@ use Rattle.rules.specs.Occurrence.{occurs}
 use Rattle.rules.proofs.Occurrence.{occurs-exact}
 use Rattle.layout.specs.Parts.{width, used, workUsed, inForce, rowCount, setFrom, spareClear}
 use Rattle.layout.proofs.StoreRows.{spare-clear, in-force-range}
-use Rattle.store.specs.Checks.{every, storeFits, workFits, listFits, axiomsInLimit, isNew, hasRoom}
-use Rattle.store.specs.Checks.{askStore, askWork, askList, askSpare, askLimit, askNumbers, askNew, askRoom, askInForce}
-use Rattle.store.specs.Changes.{changeChecks, addChecks, withdrawChecks}
+use Rattle.store.specs.Checks.{every, storeFits, workFits, listFits, axiomsInLimit}
+use Rattle.store.specs.Checks.{askStore, askWork, askList, askSpare, askLimit, askNumbers}
 use Rattle.store.specs.Written.{axiomCount, written}
-use Rattle.store.proofs.Checks.{new-axiom}
 use Rattle.classification.specs.Classified.{classifyChecks}
-use Rattle.edits.specs.Edits.{Lent, lengths, editChecks, asked}
+use Rattle.edits.specs.Lists.{axiomsIn, leftIn, rightIn, sidesIn, edited}
+use Rattle.edits.specs.Questions.{isWhole, repeats, noneTwice, allInForce, noneInForce, askWhole, askTwice, askInForce, askNew, askRoom}
+use Rattle.edits.specs.Questions.{lengthChecks, axiomChecks, contentChecks as changeContent, changeChecks}
+use Rattle.edits.specs.Edits.{Lent, asked}
+use Rattle.edits.proofs.Lists.{among-exact, whole-long, in-force-at, new-at}
 use Rattle.writing.specs.Write.{outputFits, storeChecks, writeChecks}
 use Rattle.lookups.specs.Checks.{askOccurs, openChecks, contentChecks, readChecks, listChecks}
-use Rattle.demands.specs.PublicCalls.{classify, edit, listing, write}
-use Rattle.demands.specs.DemandOne.{Fault, damagedCatalogue, shortStore, shortWork, shortList, shortOutput, strayBit, outOfRange, addedTwice, notInForce}
-use Rattle.demands.specs.DemandOne.{tooManyAxioms, noRoom, unused, Wrong, refusal, readFaults, faults, ByFirst, none, here, later}
+use Rattle.demands.specs.PublicCalls.{classify, change, listing, write}
+use Rattle.demands.specs.DemandOne.{Fault, damagedCatalogue, shortStore, shortWork, shortList, shortOutput, notWhole, twice, strayBit, outOfRange}
+use Rattle.demands.specs.DemandOne.{addedTwice, notInForce, tooManyAxioms, noRoom, unused, NotWhole, Wrong, refusal, readFaults, faults, ByFirst, none, here, later}
 
 -- ---- tests
 
@@ -50,6 +51,21 @@ one-fails test (x ∷ names) e =
     by-bool (test x)
     (λ t. let (c, m, n) = one-fails test names (rw t at e) in (c, List·Memᴰ·tail m, n))
     (λ n. (x, List·Memᴰ·head refl, n))
+
+-- A list that is not whole, one of two that is not, and a list that is.
+not-whole : (list : List ℕ) → isWhole (length list) ≡ false → NotWhole list
+unfolding isWhole
+not-whole list e =
+    by-bool (leb (length list) 256) (λ t. inr (λ z. not-both (and-both (leb (length list) 256) (eqb (length list % 4) 0) t (eq-eqb (length list % 4) 0 z)) e))
+    (λ f. inl (leb-false (length list) 256 f))
+
+one-not-whole : (gone new : List ℕ) → (isWhole (length gone) && isWhole (length new)) ≡ false → NotWhole gone ⊎ NotWhole new
+one-not-whole gone new e =
+    by-bool (isWhole (length gone)) (λ t. inr (not-whole new (not-true-false _ (λ s. not-both (and-both (isWhole (length gone)) (isWhole (length new)) t s) e))))
+    (λ f. inl (not-whole gone f))
+
+whole : (list : List ℕ) → isWhole (length list) ≡ true → ¬ (NotWhole list)
+whole list e n = let (short, parts) = whole-long (length list) e in ⊎-elim (λ l. omega arith) (λ z. z parts) n
 
 -- A spare bit that is set.
 stray : (b store : List ℕ) → spareClear b store ≡ false
@@ -110,20 +126,49 @@ module _ (b : List ℕ) (u : Lent) where
         (λ e (c, m, l). let p : c < concepts b = ltb-true c (concepts b) (each-true below names e c m) in omega arith)
         (λ _. more)
 
-    new-asked : (l r : ℕ) → ByFirst b u fs rest → ByFirst b u (addedTwice l r ∷ fs) (askNew (inForce b (u .store)) l r rest)
-    unfolding askNew isNew
-    new-asked l r more =
-        step (addedTwice l r) (not (inForce b (u .store) l r)) 16 refl (not-false _) (λ e t. not-both t (new-axiom (inForce b (u .store)) l r e)) (λ _. more)
+    whole-asked : (gone new : List ℕ) → ByFirst b u fs rest → ByFirst b u (notWhole gone new ∷ fs) (askWhole (length gone) (length new) rest)
+    unfolding askWhole
+    whole-asked gone new more =
+        let first = isWhole (length gone) in
+        let second = isWhole (length new) in
+        step (notWhole gone new) (first && second) 22 refl (one-not-whole gone new)
+        (λ e n. ⊎-elim (whole gone (and-left first second e)) (whole new (and-right first second e)) n)
+        (λ _. more)
 
-    room-asked : ByFirst b u fs rest → ByFirst b u (noRoom ∷ fs) (askRoom b (inForce b (u .store)) rest)
-    unfolding askRoom hasRoom
-    room-asked more =
-        let count = axiomCount b (inForce b (u .store)) in
-        step noRoom (ltb count 4096) 17 refl (ltb-false count 4096) (λ e l. let p : count < 4096 = ltb-true count 4096 e in omega arith) (λ _. more)
+    twice-asked : (list : List ℕ) → ByFirst b u fs rest → ByFirst b u (twice list ∷ fs) (askTwice list rest)
+    unfolding askTwice noneTwice repeats
+    twice-asked list more =
+        step (twice list) (noneTwice list) 23 refl
+        (λ e.
+        let (k, lk, t) = some-which (repeats list) (axiomsIn list) (not-false _ e) in
+        let (j, lj, x, y) = among-exact list k (leftIn list k) (rightIn list k) .0 t in
+        (j, k, lj, lk, x, y))
+        (λ e (j, k, lj, lk, x, y).
+        not-both (among-exact list k (leftIn list k) (rightIn list k) .1 (j, lj, x, y)) (none-below (repeats list) (axiomsIn list) k (not-true _ e) lk))
+        (λ _. more)
 
-    in-force-asked : (l r : ℕ) → ByFirst b u fs rest → ByFirst b u (notInForce l r ∷ fs) (askInForce (inForce b (u .store)) l r rest)
-    unfolding askInForce
-    in-force-asked l r more = step (notInForce l r) (inForce b (u .store) l r) 18 refl (λ e. e) (λ e n. not-both e n) (λ _. more)
+    in-force-asked : (gone : List ℕ) → ByFirst b u fs rest → ByFirst b u (notInForce gone ∷ fs) (askInForce (inForce b (u .store)) gone rest)
+    unfolding askInForce allInForce
+    in-force-asked gone more =
+        let F : Axioms = inForce b (u .store) in
+        step (notInForce gone) (allInForce F gone) 18 refl
+        (λ e. let (k, l, t) = some-which (λ k. not (F (leftIn gone k) (rightIn gone k))) (axiomsIn gone) (not-false _ e) in (k, l, not-true _ t))
+        (λ e (k, l, n). not-both (in-force-at F gone e k l) n)
+        (λ _. more)
+
+    new-asked : (new : List ℕ) → ByFirst b u fs rest → ByFirst b u (addedTwice new ∷ fs) (askNew (inForce b (u .store)) new rest)
+    unfolding askNew noneInForce
+    new-asked new more =
+        let F : Axioms = inForce b (u .store) in
+        step (addedTwice new) (noneInForce F new) 16 refl
+        (λ e. some-which (λ k. F (leftIn new k) (rightIn new k)) (axiomsIn new) (not-false _ e))
+        (λ e (k, l, t). not-both t (new-at F new e k l))
+        (λ _. more)
+
+    room-asked : (gone new : List ℕ) → ByFirst b u fs rest → ByFirst b u (noRoom gone new ∷ fs) (askRoom b (edited (inForce b (u .store)) gone new) rest)
+    unfolding askRoom axiomsInLimit
+    room-asked gone new more =
+        step (noRoom gone new) (leb (axiomCount b (edited (inForce b (u .store)) gone new)) 4096) 17 refl (leb-false _ _) (not-short _ _) (λ _. more)
 
     output-asked : ByFirst b u fs rest → ByFirst b u (shortOutput ∷ fs) (ask (outputFits b (u .store) (length (u .list))) 20 0 rest)
     unfolding outputFits
@@ -148,19 +193,12 @@ module _ (b : List ℕ) (u : Lent) where
   unfolding classifyChecks
   classify-asked = ask-catalogue _ (λ _. store-asked _ (λ _. work-asked _ none))
 
-  -- 1 to 15, and then the rest.
-  change-asked : (l r : ℕ) {fs : List Fault} (rest : Outcome) → ByFirst b u fs rest
-      → ByFirst b u (damagedCatalogue ∷ shortStore ∷ shortWork ∷ shortList ∷ strayBit ∷ tooManyAxioms ∷ outOfRange (l ∷ r ∷ []) ∷ fs)
-      (changeChecks b l r (lengths u) (spareClear b (u .store)) (axiomsInLimit b (inForce b (u .store))) rest)
-  unfolding changeChecks
-  change-asked l r rest more =
-      ask-catalogue _
-      (λ _. store-asked _ (λ _. work-asked _ (list-asked _ (spare-asked _ (λ _. limit-asked _ (numbers-asked _ (l ∷ r ∷ []) more))))))
-
-  pub edit-asked : (m : Mode) (l r : ℕ) → ByFirst b u (faults (edit m l r)) (asked m b l r u)
-  unfolding asked editChecks addChecks withdrawChecks
-  edit-asked Add l r = change-asked l r _ (new-asked _ l r (room-asked _ none))
-  edit-asked Delete l r = change-asked l r _ (in-force-asked _ l r none)
+  pub change-asked : (gone new : List ℕ) → ByFirst b u (faults (change gone new)) (asked b gone new u)
+  unfolding asked changeChecks lengthChecks changeContent axiomChecks
+  change-asked gone new =
+      let axioms = in-force-asked _ gone (new-asked _ new (room-asked _ gone new none)) in
+      let content = twice-asked _ (gone ++ new) (spare-asked _ (λ _. limit-asked _ (numbers-asked _ (sidesIn (gone ++ new)) axioms))) in
+      ask-catalogue _ (λ _. store-asked _ (λ _. work-asked _ (list-asked _ (whole-asked _ gone new content))))
 
   content-asked : WellFormed b → (names : List ℕ) → ByFirst b u (readFaults names) (contentChecks b names (u .store))
   unfolding contentChecks

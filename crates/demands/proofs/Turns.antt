@@ -1,35 +1,36 @@
--- One turn of a list of calls. Of a classify on any store, and of an edit on a store that is classified afresh: the answer is that of the questions by
+-- One turn of a list of calls. Of a classify on any store, and of a change on a store that is classified afresh: the answer is that of the questions by
 -- arguments alone, a refusal keeps the store, and acceptance leaves it classified afresh.
 use Prim.Native.Nat.{ℕ, _≤_}
 use native.Mathlib.Omega.{arith}
-use mathlib.Core.Path.{_≡_, refl, sym, ap, subst, _∙_}
+use mathlib.Core.Path.{_≡_, refl, sym, ap, subst, subst₂, _∙_}
 use mathlib.Core.Bool.{Bool, true}
 use mathlib.Core.List.{List, _++_}
 use lib.ListN.{length, take, drop, length-take, take-append-drop}
 use lib.Seq.{take-take, drop-append-le}
 use Rattle.booleans.proofs.Booleans.{by-bool}
 use Rattle.catalogue.specs.Outcome.{accepted, refused}
-use Rattle.derivation.specs.declared.Mode.{Mode}
-use Rattle.rules.specs.Axioms.{Axioms, catalogueAxioms}
+use Rattle.rules.specs.Axioms.{Axioms, InRange, catalogueAxioms}
 use Rattle.rules.specs.Rules.{Expression, Closure}
 use Rattle.layout.specs.Parts.{used, inForce, spareClear}
 use Rattle.store.specs.Fresh.{Marked, Fresh}
 use Rattle.store.specs.Checks.{storeFits, axiomsInLimit}
-use Rattle.store.specs.Changes.{Lengths}
-use Rattle.store.proofs.Checks.{store-long, two-numbers}
-use Rattle.store.proofs.Changes.{Passed}
+use Rattle.store.specs.Written.{axiomCount}
+use Rattle.store.proofs.Checks.{store-long, marked-axioms}
 use Rattle.store.proofs.Stored.{marked-used, marked-append}
 use Rattle.classification.specs.Classified.{classifyChecks, Classifies}
 use Rattle.classification.specs.declared.Classified.{Classified}
 use Rattle.classification.proofs.Checks.{accepted-fits}
 use Rattle.classification.proofs.Outcomes.{answer-outcome}
-use Rattle.edits.specs.Edits.{edited, Lent, lend, lengths, editChecks, asked as askedOf, Edits}
+use Rattle.edits.specs.Lists.{edited}
+use Rattle.edits.specs.Questions.{Lengths, changeChecks}
+use Rattle.edits.specs.Edits.{Lent, lend, lengths, asked as askedOf, Edits}
 use Rattle.edits.specs.declared.Changed.{Changed}
-use Rattle.edits.proofs.Checks.{edited-in-range, edit-accepted, edit-passed, edited-few, asked-by-axioms, short-refused}
-use Rattle.edits.proofs.Outcomes.{answer-outcome as edit-answer}
+use Rattle.edits.proofs.Asking.{refused-store}
+use Rattle.edits.proofs.Checks.{Accepted, edit-accepted, asked-by-axioms}
+use Rattle.edits.proofs.Outcomes.{answer-outcome as change-answer}
 use Rattle.edits.proofs.Fresh.{edit-fresh, edit-effects}
-use Rattle.edits.proofs.Kept.{unlisted-rows-kept}
-use Rattle.demands.specs.Sequences.{Request, classify, edit, Answer, classified, changed, outcomeOf, Turn, Meets, classifies, edits, lentTo, RunsOn, questions, puts, Changes}
+use Rattle.edits.proofs.Kept.{pair-row-kept, link-row-kept}
+use Rattle.demands.specs.Sequences.{Request, classify, change, Answer, classified, changed, outcomeOf, Turn, Meets, classifies, changes, lentTo, RunsOn, questions, puts, Changes}
 use Rattle.demands.proofs.FreshStores.{FreshStore, classify-leaves}
 
 -- ---- a store lent from its front
@@ -59,8 +60,8 @@ pub record Known (b : List ℕ) (F : ℕ → ℕ → Bool) (store : List ℕ) (t
   pub keeps : (number at : ℕ) → outcomeOf (t .answer) ≡ refused number at → t .store-after ≡ store
   pub rest : t .call .catalogue ≡ b → outcomeOf (t .answer) ≡ accepted → drop (used b) (t .store-after) ≡ drop (used b) store
   pub leaves : t .call .catalogue ≡ b → outcomeOf (t .answer) ≡ accepted → FreshStore b (puts (t .call .request) b F) (t .store-after)
-  pub changes : t .call .catalogue ≡ b → outcomeOf (t .answer) ≡ accepted → (m : Mode) (l r : ℕ) → t .call .request ≡ edit m l r
-      → Changes b m F (edited m F l r) store t
+  pub changes : t .call .catalogue ≡ b → outcomeOf (t .answer) ≡ accepted → (gone new : List ℕ) → t .call .request ≡ change gone new
+      → Changes b F (edited F gone new) store t
 
 -- The rest of the store changes nothing.
 fresh-append : (b : List ℕ) (F : Axioms) (xs ys : List ℕ) → FreshStore b F xs → FreshStore b F (xs ++ ys)
@@ -103,113 +104,112 @@ module _ (b : List ℕ) (F : Axioms) (store : List ℕ) (t : Turn) (x : RunsOn s
             let left : FreshStore b (catalogueAxioms b) (x .front) = classify-leaves b (lentTo t store .store) (t .work) a (x .front) (t .work-after) (with-b e) (sym (same e) ∙ o) in
             subst (λ (q : Request). FreshStore b (puts q b F) (t .store-after)) (sym request)
             (subst (FreshStore b (catalogueAxioms b)) (sym (x .store-is)) (fresh-append b (catalogueAxioms b) (x .front) (drop (t .call .lent .store) store) left));
-        changes = λ e o m l r q. let z : _≡_ {A = ℕ} 0 1 = cc in absurd (omega arith);
+        changes = λ e o gone new q. let z : _≡_ {A = ℕ} 0 1 = cc in absurd (omega arith);
       }
 
--- ---- edits
+-- ---- change
 
--- On the front of a fresh store an edit asks what it asks by arguments alone: a front that is too short is refused by 10, and a longer one is fresh.
-front-asked : (b : List ℕ) (F : Axioms) (store : List ℕ) → FreshStore b F store → (t : Turn) → RunsOn store t → (m : Mode) (l r : ℕ)
-    → askedOf m b l r (lentTo t store) ≡ editChecks m b l r (t .call .lent) true true F
+-- On the front of a fresh store a change asks what it asks by arguments alone: a front that is too short is refused by 10, and a longer one is fresh.
+front-asked : (b : List ℕ) (F : Axioms) (store : List ℕ) → FreshStore b F store → (t : Turn) → RunsOn store t → (gone new : List ℕ)
+    → askedOf b gone new (lentTo t store) ≡ changeChecks b gone new (t .call .lent) true true F
 unfolding askedOf
-front-asked b F store u t x m l r =
+front-asked b F store u t x gone new =
     let front = take (t .call .lent .store) store in
     let lent = lengths (lentTo t store) in
     by-bool (storeFits b (length front))
-    (λ e. asked-by-axioms m b F l r (lentTo t store) (marked-front b F (Closure b F) store (t .call .lent .store) (store-long b _ e) (u .fresh)) (u .few))
+    (λ e. asked-by-axioms b F gone new (lentTo t store) (marked-front b F (Closure b F) store (t .call .lent .store) (store-long b _ e) (u .fresh)) (u .few))
     (λ e.
-    short-refused m b l r lent (spareClear b front) (axiomsInLimit b (inForce b front)) (inForce b front) (u .catalogue) e
-    ∙ sym (short-refused m b l r lent true true F (u .catalogue) e))
-    ∙ ap (λ (q : Lengths). editChecks m b l r q true true F) (x .lent-is)
+    refused-store b gone new lent (spareClear b front) (axiomsInLimit b (inForce b front)) (inForce b front) (u .catalogue) e
+    ∙ sym (refused-store b gone new lent true true F (u .catalogue) e))
+    ∙ ap (λ (q : Lengths). changeChecks b gone new q true true F) (x .lent-is)
 
-module _ (b : List ℕ) (F : Axioms) (store : List ℕ) (u : FreshStore b F store) (t : Turn) (x : RunsOn store t) (m : Mode) (l r : ℕ) (a : Changed)
-    (request : t .call .request ≡ edit m l r) (answer : t .answer ≡ changed a)
-    (call : Edits m (t .call .catalogue) l r (lentTo t store) a (lend (x .front) (t .work-after) (t .list-after))) where
+module _ (b : List ℕ) (F : Axioms) (store : List ℕ) (u : FreshStore b F store) (t : Turn) (x : RunsOn store t) (gone new : List ℕ) (a : Changed)
+    (request : t .call .request ≡ change gone new) (answer : t .answer ≡ changed a)
+    (call : Edits (t .call .catalogue) gone new (lentTo t store) a (lend (x .front) (t .work-after) (t .list-after))) where
   abbrev left : Lent
   left = lend (x .front) (t .work-after) (t .list-after)
 
-  edit-answers : outcomeOf (t .answer) ≡ askedOf m (t .call .catalogue) l r (lentTo t store)
-  edit-answers = ap outcomeOf answer ∙ edit-answer m (t .call .catalogue) l r (lentTo t store) a left call
+  change-answers : outcomeOf (t .answer) ≡ askedOf (t .call .catalogue) gone new (lentTo t store)
+  change-answers = ap outcomeOf answer ∙ change-answer (t .call .catalogue) gone new (lentTo t store) a left call
 
   -- With catalogue b.
   module _ (same : t .call .catalogue ≡ b) where
-    with-b : Edits m b l r (lentTo t store) a left
-    with-b = subst (λ (c : List ℕ). Edits m c l r (lentTo t store) a left) same call
+    with-b : Edits b gone new (lentTo t store) a left
+    with-b = subst (λ (c : List ℕ). Edits c gone new (lentTo t store) a left) same call
 
-    asked-b : outcomeOf (t .answer) ≡ askedOf m b l r (lentTo t store)
-    asked-b = edit-answers ∙ ap (λ (c : List ℕ). askedOf m c l r (lentTo t store)) same
+    asked-b : outcomeOf (t .answer) ≡ askedOf b gone new (lentTo t store)
+    asked-b = change-answers ∙ ap (λ (c : List ℕ). askedOf c gone new (lentTo t store)) same
 
-    by-arguments : outcomeOf (t .answer) ≡ editChecks m b l r (t .call .lent) true true F
-    by-arguments = asked-b ∙ front-asked b F store u t x m l r
+    by-arguments : outcomeOf (t .answer) ≡ changeChecks b gone new (t .call .lent) true true F
+    by-arguments = asked-b ∙ front-asked b F store u t x gone new
 
     module _ (o : outcomeOf (t .answer) ≡ accepted) where
-      ok : askedOf m b l r (lentTo t store) ≡ accepted
+      ok : askedOf b gone new (lentTo t store) ≡ accepted
       ok = sym asked-b ∙ o
 
-      front-long : used b ≤ length (lentTo t store .store)
-      front-long = edit-accepted m b l r (lentTo t store) ok .store-fits
+      passed : Accepted b gone new (lentTo t store)
+      passed = edit-accepted b gone new (lentTo t store) ok
 
       front-fresh : Fresh b F (lentTo t store .store)
-      front-fresh = marked-front b F (Closure b F) store (t .call .lent .store) front-long (u .fresh)
+      front-fresh = marked-front b F (Closure b F) store (t .call .lent .store) (passed .store-fits) (u .fresh)
 
-      edit-leaves : FreshStore b (edited m F l r) (t .store-after)
-      edit-leaves =
-          let checks : editChecks m b l r (t .call .lent) true true F ≡ accepted = sym by-arguments ∙ o in
-          let p : Passed b l r (t .call .lent) true true = edit-passed m b l r (t .call .lent) true true F checks in
-          let (hl, hr) = two-numbers b l r (p .numbers) in
-          subst (FreshStore b (edited m F l r)) (sym (x .store-is))
-          (fresh-append b (edited m F l r) (x .front) (drop (t .call .lent .store) store)
+      change-leaves : FreshStore b (edited F gone new) (t .store-after)
+      change-leaves =
+          let own : inForce b (lentTo t store .store) ≡ F = marked-axioms b F (lentTo t store .store) front-fresh in
+          subst (FreshStore b (edited F gone new)) (sym (x .store-is))
+          (fresh-append b (edited F gone new) (x .front) (drop (t .call .lent .store) store)
           (record {
             catalogue = u .catalogue;
             well-formed = u .well-formed;
-            range = edited-in-range m b F l r (u .range) hl hr;
-            few = edited-few m b l r (t .call .lent) true true F checks (u .few);
-            fresh = edit-fresh m b l r (lentTo t store) a left with-b ok F front-fresh;
+            range = subst (λ (E : Axioms). InRange b (edited E gone new)) own (passed .after-range);
+            few = subst (λ (E : Axioms). axiomCount b (edited E gone new) ≤ 4096) own (passed .after-few);
+            fresh = edit-fresh b gone new (lentTo t store) a left with-b ok F front-fresh;
           }))
 
-      edit-changes : Changes b m F (edited m F l r) store t
-      edit-changes =
+      change-effects : Changes b F (edited F gone new) store t
+      change-effects =
+          let G = edited F gone new in
+          let range = change-leaves .range in
+          let after = change-leaves .fresh in
           record {
             answer = a;
             names = with-b .accepts ok .names;
             answer-is = answer;
-            effects = edit-effects m b l r (lentTo t store) a left with-b ok F front-fresh;
+            effects = edit-effects b gone new (lentTo t store) a left with-b ok F front-fresh;
             list-is = with-b .accepts ok .list-is;
             others = λ c lc out.
-                let (pairs, links) =
-                unlisted-rows-kept m b F l r (u .well-formed) (u .range) (edit-leaves .range) store (t .store-after) (u .fresh) (edit-leaves .fresh) c lc out
-                in
-                record { pairs = pairs; links = links };
+                record {
+                  pairs = pair-row-kept b F G (u .well-formed) (u .range) range store (t .store-after) (u .fresh) after c lc out;
+                  links = link-row-kept b F G (u .well-formed) (u .range) range store (t .store-after) (u .fresh) after c lc out;
+                };
           }
 
-  edit-known : Known b F store t
+  change-known : Known b F store t
   unfolding questions puts
-  edit-known =
+  change-known =
       record {
         answers = λ e. by-arguments e ∙ sym (ap (λ (q : Request). questions q b (t .call .lent) F) request);
-        keeps = λ number at o. x .store-is ∙ whole b store (x .front) (t .call .lent .store) (call .refuses number at (sym edit-answers ∙ o) .store-kept);
+        keeps = λ number at o. x .store-is ∙ whole b store (x .front) (t .call .lent .store) (call .refuses number at (sym change-answers ∙ o) .store-kept);
         rest = λ e o.
             ap (drop (used b)) (x .store-is)
-            ∙ rest-kept b store (x .front) (t .call .lent .store) (with-b e .accepts (ok e o) .marked .long) (front-long e o) (with-b e .accepts (ok e o) .store-rest);
-        leaves = λ e o. subst (λ (q : Request). FreshStore b (puts q b F) (t .store-after)) (sym request) (edit-leaves e o);
-        changes = λ e o m' l' r' q.
-            let em : m ≡ m' = cc in
-            let el : l ≡ l' = cc in
-            let er : r ≡ r' = cc in
-            subst (λ (n : Mode). Changes b n F (edited n F l' r') store t) em
-            (subst (λ (i : ℕ). Changes b m F (edited m F i r') store t) el (subst (λ (i : ℕ). Changes b m F (edited m F l i) store t) er (edit-changes e o)));
+            ∙ rest-kept b store (x .front) (t .call .lent .store) (with-b e .accepts (ok e o) .marked .long) (passed e o .store-fits) (with-b e .accepts (ok e o) .store-rest);
+        leaves = λ e o. subst (λ (q : Request). FreshStore b (puts q b F) (t .store-after)) (sym request) (change-leaves e o);
+        changes = λ e o gone' new' q.
+            let eg : gone ≡ gone' = cc in
+            let en : new ≡ new' = cc in
+            subst₂ (λ (g n : List ℕ). Changes b F (edited F g n) store t) eg en (change-effects e o);
       }
 
 -- ---- any call
 
--- An edit asks for a store that is classified afresh; a classify does not.
+-- A change asks for a store that is classified afresh; a classify does not.
 pub classify-turn : (b : List ℕ) (F : Axioms) (store : List ℕ) (t : Turn) → RunsOn store t → t .call .request ≡ classify → Known b F store t
 classify-turn b F store t x request = go (t .call .request) (t .answer) (x .contract) request refl
   where
     go : (q : Request) (y : Answer) → Meets (t .call .catalogue) (lentTo t store) (lend (x .front) (t .work-after) (t .list-after)) q y → q ≡ classify → t .answer ≡ y
         → Known b F store t
     go classify (classified a) (classifies c) e f = classify-known b F store t x a request f c
-    go (edit m l r) (changed a) (edits c) e f = let z : _≡_ {A = ℕ} 0 1 = cc in absurd (omega arith)
+    go (change gone new) (changed a) (changes c) e f = let z : _≡_ {A = ℕ} 0 1 = cc in absurd (omega arith)
 
 pub any-turn : (b : List ℕ) (F : Axioms) (store : List ℕ) → FreshStore b F store → (t : Turn) → RunsOn store t → Known b F store t
 any-turn b F store u t x = go (t .call .request) (t .answer) (x .contract) refl refl
@@ -217,4 +217,4 @@ any-turn b F store u t x = go (t .call .request) (t .answer) (x .contract) refl 
     go : (q : Request) (y : Answer) → Meets (t .call .catalogue) (lentTo t store) (lend (x .front) (t .work-after) (t .list-after)) q y → t .call .request ≡ q → t .answer ≡ y
         → Known b F store t
     go classify (classified a) (classifies c) e f = classify-known b F store t x a e f c
-    go (edit m l r) (changed a) (edits c) e f = edit-known b F store u t x m l r a e f c
+    go (change gone new) (changed a) (changes c) e f = change-known b F store u t x gone new a e f c

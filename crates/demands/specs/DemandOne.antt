@@ -1,7 +1,8 @@
 -- Demand 1, of every public call: what it is refused for, in which order and by which number; that a refusal changes nothing; that all else is accepted.
-use Prim.Native.Nat.{ℕ, _*_, _≤_, _<_}
+use Prim.Native.Nat.{ℕ, _*_, _%_, _≤_, _<_}
 use mathlib.Core.Path.{_≡_}
 use mathlib.Core.Bool.{true, false}
+use mathlib.Core.Logic.{_⊎_}
 use mathlib.Core.List.{List, [], _∷_, _++_, List·Memᴰ}
 use lib.ListN.{length}
 use Rattle.rows.specs.Bits.{bit, place}
@@ -9,34 +10,40 @@ use Rattle.catalogue.specs.Header.{total, concepts}
 use Rattle.catalogue.specs.Outcome.{Outcome, accepted, refused}
 use Rattle.catalogue.specs.Checks.{checked}
 use Rattle.catalogue.specs.WellFormed.{WellFormed}
-use Rattle.derivation.specs.declared.Mode.{Mode}
-use Rattle.derivation.specs.declared.Mode.the-variants.{Add, Delete}
 use Rattle.rules.specs.Occurrence.{Occurs}
 use Rattle.layout.specs.Parts.{width, used, workUsed, inForce, rowCount}
 use Rattle.store.specs.Work.{workAfter}
 use Rattle.store.specs.Written.{axiomCount, written}
+use Rattle.edits.specs.Lists.{axiomsIn, leftIn, rightIn, sidesIn, edited}
 use Rattle.edits.specs.Edits.{Lent}
 use Rattle.lookups.specs.Listings.{Lists}
 use Rattle.lookups.specs.Meaning.{KindUnder}
 use Rattle.lookups.specs.declared.kinds.Listed.the-variants.{Count}
 use Rattle.demands.specs.Sequences.{AfterCalls}
-use Rattle.demands.specs.PublicCalls.{PublicCall, classify, edit, lookup, listing, row, write, Returns}
+use Rattle.demands.specs.PublicCalls.{PublicCall, classify, change, lookup, listing, row, write, Returns}
 
 -- "Refused first: a damaged catalogue, a buffer too short, a stray bit in a store, a concept number out of range, an axiom added twice or withdrawn when not
--- in force, more than 4,096 axioms, a lookup of a concept that no axiom in force uses."
+-- in force, more than 4,096 axioms, a lookup of a concept that no axiom in force uses." And of a change (document 02, request Four): "a list over 64 axioms
+-- or not of whole ones", "an axiom twice in the two lists together".
 pub data Fault : Type 0 where
   damagedCatalogue : Fault
   shortStore : Fault
   shortWork : Fault
   shortList : Fault
   shortOutput : Fault
+  notWhole : (gone new : List ℕ) → Fault
+  twice : (list : List ℕ) → Fault
   strayBit : Fault
   outOfRange : (names : List ℕ) → Fault
-  addedTwice : (l r : ℕ) → Fault
-  notInForce : (l r : ℕ) → Fault
+  addedTwice : (new : List ℕ) → Fault
+  notInForce : (gone : List ℕ) → Fault
   tooManyAxioms : Fault
-  noRoom : Fault
+  noRoom : (gone new : List ℕ) → Fault
   unused : (names : List ℕ) → Fault
+
+-- A list of more than 64 axioms, or not of whole ones.
+abbrev pub NotWhole : List ℕ → Type 0
+NotWhole list = (256 < length list) ⊎ ¬ (length list % 4 ≡ 0)
 
 -- What each of them is, of a catalogue and the buffers lent.
 abbrev pub Wrong : List ℕ → Lent → Fault → Type 0
@@ -45,42 +52,44 @@ Wrong b u shortStore = length (u .store) < used b
 Wrong b u shortWork = length (u .work) < workUsed b
 Wrong b u shortList = length (u .list) < 2 * concepts b
 Wrong b u shortOutput = length (u .list) < length (written b (inForce b (u .store)))
+Wrong b u (notWhole gone new) = NotWhole gone ⊎ NotWhole new
+Wrong b u (twice list) =
+    (j : ℕ) × (k : ℕ) × (j < k) × (k < axiomsIn list) × (leftIn list j ≡ leftIn list k) × (rightIn list j ≡ rightIn list k)
 Wrong b u strayBit =
     (r : ℕ) × (i : ℕ) × (r < rowCount b) × (concepts b ≤ i) × (i < 8 * width b) × (bit (u .store) (place (width b) r i) ≡ true)
 Wrong b u (outOfRange names) = (c : ℕ) × List·Memᴰ c names × (concepts b ≤ c)
-Wrong b u (addedTwice l r) = inForce b (u .store) l r ≡ true
-Wrong b u (notInForce l r) = inForce b (u .store) l r ≡ false
+Wrong b u (addedTwice new) = (k : ℕ) × (k < axiomsIn new) × (inForce b (u .store) (leftIn new k) (rightIn new k) ≡ true)
+Wrong b u (notInForce gone) = (k : ℕ) × (k < axiomsIn gone) × (inForce b (u .store) (leftIn gone k) (rightIn gone k) ≡ false)
 Wrong b u tooManyAxioms = 4096 < axiomCount b (inForce b (u .store))
-Wrong b u noRoom = 4096 ≤ axiomCount b (inForce b (u .store))
+Wrong b u (noRoom gone new) = 4096 < axiomCount b (edited (inForce b (u .store)) gone new)
 Wrong b u (unused names) = (c : ℕ) × List·Memᴰ c names × ¬ (Occurs b (inForce b (u .store)) c)
 
--- "Each has its number": that of document 01's question. A damaged catalogue has 1 to 9, with the record at fault (catalogue's Checks).
+-- "Each has its number": that of its question in documents 01 and 02. A damaged catalogue has 1 to 9, with the record at fault (catalogue's Checks).
 abbrev pub refusal : List ℕ → Fault → Outcome
 refusal b damagedCatalogue = checked b
 refusal b shortStore = refused 10 0
 refusal b shortWork = refused 11 0
 refusal b shortList = refused 12 0
 refusal b shortOutput = refused 20 0
+refusal b (notWhole gone new) = refused 22 0
+refusal b (twice list) = refused 23 0
 refusal b strayBit = refused 13 0
 refusal b (outOfRange names) = refused 15 0
-refusal b (addedTwice l r) = refused 16 0
-refusal b (notInForce l r) = refused 18 0
+refusal b (addedTwice new) = refused 16 0
+refusal b (notInForce gone) = refused 18 0
 refusal b tooManyAxioms = refused 14 0
-refusal b noRoom = refused 17 0
+refusal b (noRoom gone new) = refused 17 0
 refusal b (unused names) = refused 19 0
 
--- What a call can be refused for, in the order in which it asks (document 01, Questions).
-abbrev pub editFaults : Mode → (l r : ℕ) → List Fault
-editFaults Add l r = addedTwice l r ∷ noRoom ∷ []
-editFaults Delete l r = notInForce l r ∷ []
-
+-- What a call can be refused for, in the order in which it asks (document 01, Questions; document 02, request Four).
 abbrev pub readFaults : List ℕ → List Fault
 readFaults names = strayBit ∷ tooManyAxioms ∷ outOfRange names ∷ unused names ∷ []
 
 abbrev pub faults : PublicCall → List Fault
 faults classify = damagedCatalogue ∷ shortStore ∷ shortWork ∷ []
-faults (edit m l r) =
-    damagedCatalogue ∷ shortStore ∷ shortWork ∷ shortList ∷ strayBit ∷ tooManyAxioms ∷ outOfRange (l ∷ r ∷ []) ∷ editFaults m l r
+faults (change gone new) =
+    damagedCatalogue ∷ shortStore ∷ shortWork ∷ shortList ∷ notWhole gone new ∷ twice (gone ++ new) ∷ strayBit ∷ tooManyAxioms
+    ∷ outOfRange (sidesIn (gone ++ new)) ∷ notInForce gone ∷ addedTwice new ∷ noRoom gone new ∷ []
 faults (lookup c d) = damagedCatalogue ∷ shortStore ∷ readFaults (c ∷ d ∷ [])
 faults (listing d) = damagedCatalogue ∷ shortStore ∷ shortList ∷ readFaults (d ∷ [])
 faults (row c) = damagedCatalogue ∷ shortStore ∷ readFaults (c ∷ [])

@@ -1,13 +1,13 @@
--- The public calls (document 01, What it covers), as one family: each met its own contract, answered an outcome, and left its buffers in some state.
+-- The public calls (document 01, What it covers; document 02, request Four), as one family: each met its own contract, answered an outcome, and left its
+-- buffers in some state.
 use Prim.Native.Nat.{ℕ}
 use mathlib.Core.Path.{_≡_}
 use mathlib.Core.List.{List}
 use denote.Ref.{RefT, now}
 use Rattle.catalogue.specs.Outcome.{Outcome, accepted, refused}
-use Rattle.derivation.specs.declared.Mode.{Mode}
 use Rattle.classification.specs.Classified.{Classifies, outcomeOf as classifyOutcome}
 use Rattle.classification.specs.declared.Classified.{Classified}
-use Rattle.edits.specs.Answers.{outcomeOf as editOutcome}
+use Rattle.edits.specs.Answers.{outcomeOf as changeOutcome}
 use Rattle.edits.specs.Edits.{Lent, lend, Edits}
 use Rattle.edits.specs.declared.Changed.{Changed}
 use Rattle.writing.specs.Write.{Writes}
@@ -23,10 +23,11 @@ use Rattle.lookups.specs.declared.kinds.Listed.the-variants as kinds
 use Rattle.lookups.specs.declared.handing.Handed.{Handed}
 use Rattle.lookups.specs.declared.handing.Handed.the-variants as handing
 
--- Classify; add or withdraw the axiom (l, r); look up (c, d); list the atomic kinds under d; hand out the row of c; write the current catalogue.
+-- Classify; withdraw the axioms of `gone` and add those of `new`; look up (c, d); list the atomic kinds under d; hand out the row of c; write the current
+-- catalogue.
 pub data PublicCall : Type 0 where
   classify : PublicCall
-  edit : Mode → (l r : ℕ) → PublicCall
+  change : (gone new : List ℕ) → PublicCall
   lookup : (c d : ℕ) → PublicCall
   listing : (d : ℕ) → PublicCall
   row : (c : ℕ) → PublicCall
@@ -53,12 +54,12 @@ writeOutcome (writing.Refused number at) = refused number at
 
 -- ---- a call that returned
 
--- With catalogue b a call was lent u, met its contract, answered an outcome, and left v. The third buffer is the list of an edit or of a listing, or
+-- With catalogue b a call was lent u, met its contract, answered an outcome, and left v. The third buffer is the list of a change or of a listing, or
 -- write's output. A buffer that a call is not lent, or is lent for reading only, is the same in v.
 pub data Returns (b : List ℕ) (u : Lent) : PublicCall → Outcome → Lent → Type 0 where
   classifies : {a : Classified} {store work : List ℕ} → Classifies b (u .store) (u .work) a store work
       → Returns b u classify (classifyOutcome a) (lend store work (u .list))
-  edits : {m : Mode} {l r : ℕ} {a : Changed} {v : Lent} → Edits m b l r u a v → Returns b u (edit m l r) (editOutcome a) v
+  changes : {gone new : List ℕ} {a : Changed} {v : Lent} → Edits b gone new u a v → Returns b u (change gone new) (changeOutcome a) v
   looks-up : {c d : ℕ} {a : Looked} → a ≡ lookedUp b c d (u .store) → Returns b u (lookup c d) (lookupOutcome a) u
   lists : {d : ℕ} {a : Listed} {list : List ℕ} → Lists b d (u .store) (u .list) a list
       → Returns b u (listing d) (listOutcome a) (lend (u .store) (u .work) list)

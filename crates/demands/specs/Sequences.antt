@@ -1,5 +1,5 @@
--- Classify, add and withdraw in a row on one store (document 01, Edits in a row): what it is for a list of calls to have run, the axioms in force by the
--- calls' arguments alone (document 01: the book), and demand 3, one claim about every such list.
+-- Classify and change in a row on one store (document 01, Edits in a row; document 02, request Four): what it is for a list of calls to have run, the axioms
+-- in force by the calls' arguments alone (document 01: the book), and demand 3, one claim about every such list.
 use Prim.Native.Nat.{ℕ, _<_}
 use native.Mathlib.Decide.{ℕ-discrete}
 use mathlib.Core.Path.{_≡_}
@@ -8,29 +8,30 @@ use mathlib.Core.List.{List, [], _∷_, _++_, map, List·Memᴰ, List-discrete}
 use lib.ListN.{take, drop}
 use Rattle.catalogue.specs.Header.{concepts, roles}
 use Rattle.catalogue.specs.Outcome.{Outcome, accepted, refused}
-use Rattle.derivation.specs.declared.Mode.{Mode}
 use Rattle.rules.specs.Axioms.{Axioms, catalogueAxioms, none}
 use Rattle.rules.specs.Rules.{Closure}
+use Rattle.rules.specs.Changes.{TouchedPartition}
 use Rattle.layout.specs.Parts.{used, pairRowAt, linkRowAt, rowAt}
 use Rattle.store.specs.Fresh.{Fresh}
 use Rattle.store.specs.Written.{written}
-use Rattle.store.specs.Changes.{Lengths}
 use Rattle.lists.specs.Lists.{withFront}
 use Rattle.classification.specs.Classified.{classifyChecks, Classifies, outcomeOf as classifyOutcome}
 use Rattle.classification.specs.declared.Classified.{Classified}
-use Rattle.edits.specs.Answers.{outcomeOf as editOutcome}
-use Rattle.edits.specs.Edits.{edited, Listed, Effects, Lent, lend, lengths, editChecks, Edits}
+use Rattle.edits.specs.Answers.{outcomeOf as changeOutcome}
+use Rattle.edits.specs.Lists.{edited}
+use Rattle.edits.specs.Questions.{Lengths, changeChecks}
+use Rattle.edits.specs.Edits.{Effects, Lent, lend, lengths, Edits}
 use Rattle.edits.specs.declared.Changed.{Changed}
 use Rattle.demands.specs.Afresh.{ClassifiesAfresh, ClassifiesAlike}
 
 -- ---- calls
 
--- Classify, or an edit of the axiom (l, r).
+-- Classify, or a change that withdraws the axioms of `gone` and adds those of `new`.
 pub data Request : Type 0 where
   classify : Request
-  edit : Mode → (l r : ℕ) → Request
+  change : (gone new : List ℕ) → Request
 
--- The arguments of a call: the catalogue, and of each buffer its length alone.
+-- The arguments of a call: its lists of axioms, the catalogue, and of each buffer its length alone.
 pub record Call : Type 0 where
   pub request : Request
   pub catalogue : List ℕ
@@ -42,7 +43,7 @@ pub data Answer : Type 0 where
 
 abbrev pub outcomeOf : Answer → Outcome
 outcomeOf (classified a) = classifyOutcome a
-outcomeOf (changed a) = editOutcome a
+outcomeOf (changed a) = changeOutcome a
 
 -- A call with what it was lent besides the store, what it answered, and what it left in each buffer.
 pub record Turn : Type 0 where
@@ -59,7 +60,7 @@ pub record Turn : Type 0 where
 -- A call met its own contract. Classify is lent no list.
 pub data Meets (b : List ℕ) (u v : Lent) : Request → Answer → Type 0 where
   classifies : {a : Classified} → Classifies b (u .store) (u .work) a (v .store) (v .work) → Meets b u v classify (classified a)
-  edits : {m : Mode} {l r : ℕ} {a : Changed} → Edits m b l r u a v → Meets b u v (edit m l r) (changed a)
+  changes : {gone new : List ℕ} {a : Changed} → Edits b gone new u a v → Meets b u v (change gone new) (changed a)
 
 -- The store is lent from its front, as long as the call says.
 abbrev pub lentTo : Turn → List ℕ → Lent
@@ -90,12 +91,12 @@ pub record Sequence (b store : List ℕ) (t : Turn) (ts : List Turn) (last : Lis
 -- A call's questions, with 13 and 14 passed, and 16 to 18 asked of F.
 unfoldable pub questions : Request → List ℕ → Lengths → Axioms → Outcome
 questions classify b lent F = classifyChecks b (lent .store) (lent .work)
-questions (edit m l r) b lent F = editChecks m b l r lent true true F
+questions (change gone new) b lent F = changeChecks b gone new lent true true F
 
 -- The axioms that it puts in force, accepted.
 unfoldable pub puts : Request → List ℕ → Axioms → Axioms
 puts classify b F = catalogueAxioms b
-puts (edit m l r) b F = edited m F l r
+puts (change gone new) b F = edited F gone new
 
 -- With catalogue b a call is asked its questions; with another it is refused, and nothing says by which.
 pub data Expected : Type 0 where
@@ -139,15 +140,15 @@ pub record SameRows (b : List ℕ) (c : ℕ) (store store' : List ℕ) : Type 0 
   pub pairs : rowAt b store' (pairRowAt b c) ≡ rowAt b store (pairRowAt b c)
   pub links : (r : ℕ) → r < roles b → rowAt b store' (linkRowAt b c r) ≡ rowAt b store (linkRowAt b c r)
 
--- An accepted edit, with F in force before it: it has the effects of the edit on the least set of F, its list has the names of just the concepts that are
--- to be listed, rising, and every other concept's rows are the same after as before.
-pub record Changes (b : List ℕ) (m : Mode) (F G : ℕ → ℕ → Bool) (store : List ℕ) (t : Turn) : Type 0 where
+-- An accepted change from F to G: it has the effects of the change on the least set of F, its list has the names of exactly the touched concepts, rising, and
+-- every other concept's rows are the same after as before.
+pub record Changes (b : List ℕ) (F G : ℕ → ℕ → Bool) (store : List ℕ) (t : Turn) : Type 0 where
   pub answer : Changed
   pub names : List ℕ
   pub answer-is : t .answer ≡ changed answer
-  pub effects : Effects b m F G (Closure b F) names answer
+  pub effects : Effects b F G (Closure b F) names answer
   pub list-is : t .list-after ≡ withFront names (t .list)
-  pub others : (c : ℕ) → c < concepts b → ¬ (Listed b F G (Closure b F) m c) → SameRows b c store (t .store-after)
+  pub others : (c : ℕ) → c < concepts b → ¬ (TouchedPartition b F G (Closure b F) c) → SameRows b c store (t .store-after)
 
 -- A turn with F in force before it.
 pub record Correct (b : List ℕ) (F : ℕ → ℕ → Bool) (store : List ℕ) (t : Turn) : Type 0 where
@@ -155,7 +156,7 @@ pub record Correct (b : List ℕ) (F : ℕ → ℕ → Bool) (store : List ℕ) 
   pub keeps : (number at : ℕ) → outcomeOf (t .answer) ≡ refused number at → t .store-after ≡ store
   pub rest : drop (used b) (t .store-after) ≡ drop (used b) store
   pub fresh : Fresh b (afterCall b F (t .call)) (t .store-after)
-  pub changes : (m : Mode) (l r : ℕ) → t .call .request ≡ edit m l r → outcomeOf (t .answer) ≡ accepted → Changes b m F (edited m F l r) store t
+  pub changes : (gone new : List ℕ) → t .call .request ≡ change gone new → outcomeOf (t .answer) ≡ accepted → Changes b F (edited F gone new) store t
 
 -- Each turn in a row.
 pub data AllCorrect (b : List ℕ) : (ℕ → ℕ → Bool) → List ℕ → List Turn → Type 0 where
@@ -173,8 +174,10 @@ pub record ClassifiedAfresh (b : List ℕ) (F : ℕ → ℕ → Bool) (store : L
 
 -- Demand 3: "For every list of classify, add and withdraw calls, refused ones included, under one catalogue, that begins with an accepted classify on a store
 -- of any content, each later call getting the store as the last one left it" (`Sequence`): "after the list, every byte of the store's used part equals that
--- of a store classified afresh from the axioms then in force" (`ClassifiedAfresh`). "Each accepted withdrawal in it names exactly the concepts whose
--- partitions the published over-deletion breaks .. and every other concept's rows are the same after as before" (`Changes` in `AllCorrect`).
+-- of a store classified afresh from the axioms then in force" (`ClassifiedAfresh`). And document 02, request Four: "In demand 3 this change takes the place of
+-- add and withdraw: accepted, F loses the one list's axioms and gains the other's" (`puts`); "every list of classify and such changes still leaves the freshly
+-- classified store, and each accepted change names exactly the touched, every other concept's rows of pairs and of links staying the same" (`Changes` in
+-- `AllCorrect`).
 abbrev pub DemandThree : Type 0
 DemandThree =
     (b store : List ℕ) (t : Turn) (ts : List Turn) (last : List ℕ) → Sequence b store t ts last

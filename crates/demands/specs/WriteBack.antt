@@ -1,4 +1,4 @@
--- Write after a list of classify, add and withdraw calls as in demand 3, said of the contracts; and classify of what write gave.
+-- Write after a list of classify and change calls as in demand 3, said of the contracts; and classify of what write gave.
 use Prim.Native.Nat.{ℕ, _≤_, _<_}
 use mathlib.Core.Path.{_≡_}
 use mathlib.Core.List.{List, _++_}

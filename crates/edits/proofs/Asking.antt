@@ -1,38 +1,156 @@
--- The questions of an edit, in groups and one after another.
+-- The questions of a change, in groups and one after another: what acceptance says, the ways to a refusal, and what they are of a store that marks F.
 use Prim.Native.Nat.{ℕ, _≤_}
-use mathlib.Core.Path.{_≡_, sym, ap, _∙_}
-use mathlib.Core.Bool.{Bool}
-use mathlib.Core.List.{List}
-use borrow.Author.Tests.{leb-true}
-use Rattle.catalogue.specs.Outcome.{Outcome, accepted, followed}
-use Rattle.catalogue.specs.Checks.{catalogueChecks}
-use Rattle.catalogue.proofs.Outcomes.{ask-accepted, followed-ask}
-use Rattle.derivation.specs.declared.Mode.{Mode}
-use Rattle.derivation.specs.declared.Mode.the-variants.{Add, Delete}
+use mathlib.Core.Path.{_≡_, ap, ap₂, _∙_}
+use mathlib.Core.Bool.{Bool, true, false, _&&_}
+use mathlib.Core.List.{List, _++_}
+use lib.ListN.{length}
+use Rattle.booleans.proofs.Booleans.{and-left, and-right, and-both}
+use Rattle.catalogue.specs.Outcome.{Outcome, accepted, refused, followed}
+use Rattle.catalogue.specs.Checks.{checked}
+use Rattle.catalogue.proofs.Outcomes.{ask-yes, ask-no, ask-accepted, followed-ask, followed-both}
+use Rattle.catalogue.proofs.Passed.{checks-followed, after-accepted, after-refused}
 use Rattle.rules.specs.Axioms.{Axioms}
-use Rattle.layout.specs.Parts.{used}
-use Rattle.store.specs.Checks.{storeFits, workFits, listFits, askStore, askWork, askList}
-use Rattle.store.specs.Changes.{Lengths, changeChecks, addChecks, withdrawChecks}
-use Rattle.edits.specs.Edits.{editChecks}
-use Rattle.edits.specs.Questions.{lengthChecks, askEdit, contentChecks}
+use Rattle.rules.specs.Rules.{Expression}
+use Rattle.layout.specs.Parts.{inForce, spareClear}
+use Rattle.store.specs.Written.{axiomCount}
+use Rattle.store.specs.Fresh.{Marked}
+use Rattle.store.specs.Checks.{storeFits, workFits, listFits, axiomsInLimit, numbersBelow, askStore, askWork, askList, askSpare, askLimit, askNumbers}
+use Rattle.store.proofs.Checks.{marked-axioms, marked-limit}
+use Rattle.edits.specs.Lists.{sidesIn, edited}
+use Rattle.edits.specs.Questions.{Lengths, isWhole, noneTwice, allInForce, noneInForce, askWhole, askTwice, askInForce, askNew, askRoom, lengthChecks, axiomChecks, contentChecks, changeChecks}
 
-lengths-followed : (b : List ℕ) (lent : Lengths) (rest : Outcome) → followed (lengthChecks b lent) rest ≡ askStore b (lent .store) (askWork b (lent .work) (askList b (lent .list) rest))
-unfolding lengthChecks askStore askWork askList followed
-lengths-followed b lent rest =
+-- ---- 10 to 12 and 22
+
+pub lengths-followed : (b : List ℕ) (gone new : ℕ) (lent : Lengths) (rest : Outcome) → followed (lengthChecks b gone new lent accepted) rest ≡ lengthChecks b gone new lent rest
+unfolding lengthChecks askStore askWork askList askWhole followed
+lengths-followed b gone new lent rest =
     followed-ask (storeFits b (lent .store)) 10 0 _ rest
     ∙ ap (λ (o : Outcome). askStore b (lent .store) o)
     (followed-ask (workFits b (lent .work)) 11 0 _ rest
     ∙ ap (λ (o : Outcome). askWork b (lent .work) o)
-    (followed-ask (listFits b (lent .list)) 12 0 accepted rest))
+    (followed-ask (listFits b (lent .list)) 12 0 _ rest
+    ∙ ap (λ (o : Outcome). askList b (lent .list) o)
+    (followed-ask (isWhole gone && isWhole new) 22 0 accepted rest)))
 
--- Where they are answered yes, the store is long enough.
-pub lengths-fit : (b : List ℕ) (lent : Lengths) → lengthChecks b lent ≡ accepted → used b ≤ lent .store
-unfolding lengthChecks askStore storeFits
-lengths-fit b lent e = leb-true (used b) (lent .store) (ask-accepted (storeFits b (lent .store)) 10 0 _ e .0)
+-- All of them answered yes.
+pub record Fit (b : List ℕ) (gone new : ℕ) (lent : Lengths) : Type 0 where
+  pub store-fits : storeFits b (lent .store) ≡ true
+  pub work-fits : workFits b (lent .work) ≡ true
+  pub list-fits : listFits b (lent .list) ≡ true
+  pub gone-whole : isWhole gone ≡ true
+  pub new-whole : isWhole new ≡ true
 
--- The catalogue's questions, the lengths', and then those of the content.
-pub checks-grouped : (m : Mode) (b : List ℕ) (l r : ℕ) (lent : Lengths) (clear few : Bool) (F : Axioms)
-    → editChecks m b l r lent clear few F ≡ catalogueChecks b (followed (lengthChecks b lent) (contentChecks m b l r clear few F))
-unfolding editChecks addChecks withdrawChecks changeChecks contentChecks askEdit
-checks-grouped Add b l r lent clear few F = ap (catalogueChecks b) (sym (lengths-followed b lent _))
-checks-grouped Delete b l r lent clear few F = ap (catalogueChecks b) (sym (lengths-followed b lent _))
+module _ (b : List ℕ) (gone new : ℕ) (lent : Lengths) (rest : Outcome) where
+  pub fit-rest : Fit b gone new lent → lengthChecks b gone new lent rest ≡ rest
+  unfolding lengthChecks askStore askWork askList askWhole
+  fit-rest p =
+      ask-yes 10 0 _ (p .store-fits)
+      ∙ ask-yes 11 0 _ (p .work-fits)
+      ∙ ask-yes 12 0 _ (p .list-fits)
+      ∙ ask-yes 22 0 _ (and-both (isWhole gone) (isWhole new) (p .gone-whole) (p .new-whole))
+
+  pub rest-fit : lengthChecks b gone new lent rest ≡ accepted → Fit b gone new lent × (rest ≡ accepted)
+  unfolding lengthChecks askStore askWork askList askWhole
+  rest-fit e =
+      let ten = ask-accepted (storeFits b (lent .store)) 10 0 _ e in
+      let eleven = ask-accepted (workFits b (lent .work)) 11 0 _ (ten .1) in
+      let twelve = ask-accepted (listFits b (lent .list)) 12 0 _ (eleven .1) in
+      let whole = ask-accepted (isWhole gone && isWhole new) 22 0 rest (twelve .1) in (
+        record {
+          store-fits = ten .0;
+          work-fits = eleven .0;
+          list-fits = twelve .0;
+          gone-whole = and-left (isWhole gone) (isWhole new) (whole .0);
+          new-whole = and-right (isWhole gone) (isWhole new) (whole .0);
+        },
+        whole .1,
+      )
+
+-- ---- up to 15
+
+-- All of them answered yes.
+pub record Passed (b gone new : List ℕ) (lent : Lengths) (clear few : Bool) : Type 0 where
+  pub catalogue : checked b ≡ accepted
+  pub fit : Fit b (length gone) (length new) lent
+  pub once : noneTwice (gone ++ new) ≡ true
+  pub spare-clear : clear ≡ true
+  pub limit-kept : few ≡ true
+  pub numbers : numbersBelow b (sidesIn (gone ++ new)) ≡ true
+
+module _ (b gone new : List ℕ) (lent : Lengths) (clear few : Bool) (F : Axioms) where
+  -- The rest is asked where they are, and only there.
+  pub passed-rest : Passed b gone new lent clear few → changeChecks b gone new lent clear few F ≡ axiomChecks b gone new F
+  unfolding changeChecks contentChecks askTwice askSpare askLimit askNumbers
+  passed-rest p =
+      after-accepted b _ (p .catalogue)
+      ∙ fit-rest b (length gone) (length new) lent _ (p .fit)
+      ∙ ask-yes 23 0 _ (p .once)
+      ∙ ask-yes 13 0 _ (p .spare-clear)
+      ∙ ask-yes 14 0 _ (p .limit-kept)
+      ∙ ask-yes 15 0 _ (p .numbers)
+
+  pub rest-passed : changeChecks b gone new lent clear few F ≡ accepted → Passed b gone new lent clear few × (axiomChecks b gone new F ≡ accepted)
+  unfolding changeChecks contentChecks askTwice askSpare askLimit askNumbers
+  rest-passed e =
+      let nine = followed-both (checked b) _ (checks-followed b _ ∙ e) in
+      let lengths = rest-fit b (length gone) (length new) lent _ (nine .1) in
+      let once = ask-accepted (noneTwice (gone ++ new)) 23 0 _ (lengths .1) in
+      let thirteen = ask-accepted clear 13 0 _ (once .1) in
+      let fourteen = ask-accepted few 14 0 _ (thirteen .1) in
+      let fifteen = ask-accepted (numbersBelow b (sidesIn (gone ++ new))) 15 0 _ (fourteen .1) in (
+        record {
+          catalogue = nine .0;
+          fit = lengths .0;
+          once = once .0;
+          spare-clear = thirteen .0;
+          limit-kept = fourteen .0;
+          numbers = fifteen .0;
+        },
+        fifteen .1,
+      )
+
+  -- A catalogue that is refused, and a store that is too short.
+  pub refused-catalogue : {number at : ℕ} → checked b ≡ refused number at → changeChecks b gone new lent clear few F ≡ refused number at
+  unfolding changeChecks
+  refused-catalogue e = after-refused b _ e
+
+  pub refused-store : checked b ≡ accepted → storeFits b (lent .store) ≡ false → changeChecks b gone new lent clear few F ≡ refused 10 0
+  unfolding changeChecks lengthChecks askStore
+  refused-store catalogue e = after-accepted b _ catalogue ∙ ask-no 10 0 _ e
+
+-- ---- 18, 16 and 17
+
+module _ (b gone new : List ℕ) (F : Axioms) where
+  pub axioms-pass : allInForce F gone ≡ true → noneInForce F new ≡ true → axiomsInLimit b (edited F gone new) ≡ true → axiomChecks b gone new F ≡ accepted
+  unfolding axiomChecks askInForce askNew askRoom
+  axioms-pass there out room = ask-yes 18 0 _ there ∙ ask-yes 16 0 _ out ∙ ask-yes 17 0 accepted room
+
+  pub pass-axioms : axiomChecks b gone new F ≡ accepted → (allInForce F gone ≡ true) × (noneInForce F new ≡ true) × (axiomsInLimit b (edited F gone new) ≡ true)
+  unfolding axiomChecks askInForce askNew askRoom
+  pass-axioms e =
+      let eighteen = ask-accepted (allInForce F gone) 18 0 _ e in
+      let sixteen = ask-accepted (noneInForce F new) 16 0 _ (eighteen .1) in
+      let seventeen = ask-accepted (axiomsInLimit b (edited F gone new)) 17 0 accepted (sixteen .1) in
+      (eighteen .0, sixteen .0, seventeen .0)
+
+  -- A withdrawn axiom that is not in force: 18. Else an added one that is: 16. Else too many afterwards: 17.
+  pub refused-absent : allInForce F gone ≡ false → axiomChecks b gone new F ≡ refused 18 0
+  unfolding axiomChecks askInForce
+  refused-absent e = ask-no 18 0 _ e
+
+  pub refused-in-force : allInForce F gone ≡ true → noneInForce F new ≡ false → axiomChecks b gone new F ≡ refused 16 0
+  unfolding axiomChecks askInForce askNew
+  refused-in-force there e = ask-yes 18 0 _ there ∙ ask-no 16 0 _ e
+
+  pub refused-full : allInForce F gone ≡ true → noneInForce F new ≡ true → axiomsInLimit b (edited F gone new) ≡ false → axiomChecks b gone new F ≡ refused 17 0
+  unfolding axiomChecks askInForce askNew askRoom
+  refused-full there out e = ask-yes 18 0 _ there ∙ ask-yes 16 0 _ out ∙ ask-no 17 0 accepted e
+
+-- ---- read off a store
+
+-- Of a store that marks F, at most 4,096 axioms, the checks are those of lengths, lists and F.
+pub changes-by-axioms : {S : Expression → Type 0} (b : List ℕ) (F : Axioms) (store : List ℕ) → Marked b F S store → axiomCount b F ≤ 4096 → (gone new : List ℕ) (lent : Lengths)
+    → changeChecks b gone new lent (spareClear b store) (axiomsInLimit b (inForce b store)) (inForce b store) ≡ changeChecks b gone new lent true true F
+changes-by-axioms b F store marked few gone new lent =
+    ap₂ (λ c f. changeChecks b gone new lent c f (inForce b store)) (marked .spare) (marked-limit b F store marked few)
+    ∙ ap (changeChecks b gone new lent true true) (marked-axioms b F store marked)

@@ -1,33 +1,31 @@
--- What an edit of a store that is classified afresh keeps: a concept that is not touched has the same rows after as before, of pairs and of links, and a
--- left side that is not the axiom's has the same row of axioms.
+-- What a change of a store that is classified afresh keeps: a concept that is not touched has the same rows after as before, of pairs and of links, and a
+-- concept that is the left side of no axiom of the two lists has the same row of axioms.
 use Prim.Native.Nat.{ℕ, _+_, _*_, _≤_, _<_}
 use native.Mathlib.Decide.{decLt}
 use native.Mathlib.Omega.{arith}
+use mathlib.Core.Bool.{false}
 use mathlib.Core.Path.{_≡_, sym, subst, _∙_}
 use mathlib.Core.Logic.{_↔_, ⊎-elim, inl}
 use mathlib.Core.List.{List}
 use lib.Dec.{lit<}
 use lib.ListN.{length, take, drop, length-take, length-drop, List·getD-eq-default}
 use lib.Seq.{length-take-le, getD-take, getD-drop}
-use Rattle.booleans.proofs.Booleans.{agree}
+use Rattle.booleans.proofs.Booleans.{agree, not-both}
 use Rattle.rows.specs.Bits.{bit, Bytes}
 use Rattle.rows.proofs.Bits.{same-bits}
 use Rattle.rows.proofs.Places.{row-within}
 use Rattle.catalogue.specs.Header.{concepts, roles}
 use Rattle.catalogue.specs.WellFormed.{WellFormed}
-use Rattle.derivation.specs.declared.Mode.{Mode}
-use Rattle.derivation.specs.declared.Mode.the-variants.{Add, Delete}
 use Rattle.rules.specs.Axioms.{Axioms, InRange}
 use Rattle.rules.specs.Rules.{Expression, pair, link, partition, Closure}
 use Rattle.rules.specs.Changes.{TouchedPartition}
-use Rattle.rules.proofs.Axioms.{added-exact, withdrawn-exact}
 use Rattle.rules.proofs.Changes.{untouched-closure}
 use Rattle.layout.specs.Parts.{width, used, axiomRowAt, pairRowAt, linkRowAt, rowAt, held, rowCount}
 use Rattle.layout.proofs.StoreSizes.{used-rows, rows-split}
 use Rattle.layout.proofs.StoreRows.{axiom-row-bit, pair-row-bit, link-row-bit}
 use Rattle.store.specs.Fresh.{Marked, Fresh}
-use Rattle.edits.specs.Edits.{edited, Listed}
-use Rattle.edits.proofs.Fresh.{listed-touched}
+use Rattle.edits.specs.Lists.{listed, edited}
+use Rattle.edits.proofs.Lists.{edited-exact}
 
 -- ---- rows with the same bits
 
@@ -97,26 +95,14 @@ module _ (b : List ℕ) (F G : Axioms) (wf : WellFormed b) (rangeF : InRange b F
     unfolding partition
     link-row-kept r lr = link-row-same b F G (Closure b F) (Closure b G) xs ys p q c lc r lr (λ d. untouched-held (link c r d) out)
 
--- So has every concept that the edit does not list.
-module _ (m : Mode) (b : List ℕ) (F : Axioms) (l r : ℕ) (wf : WellFormed b) (range : InRange b F) (after : InRange b (edited m F l r))
-    (xs ys : List ℕ) (p : Fresh b F xs) (q : Fresh b (edited m F l r) ys) where
-  pub unlisted-rows-kept : (c : ℕ) → c < concepts b → ¬ (Listed b F (edited m F l r) (Closure b F) m c)
-      → (rowAt b ys (pairRowAt b c) ≡ rowAt b xs (pairRowAt b c)) × ((s : ℕ) → s < roles b → rowAt b ys (linkRowAt b c s) ≡ rowAt b xs (linkRowAt b c s))
-  unlisted-rows-kept c lc out =
-      let G = edited m F l r in
-      let untouched : ¬ (TouchedPartition b F G (Closure b F) c) = λ t. out (listed-touched b F l r wf range m after c .1 t) in
-      (pair-row-kept b F G wf range after xs ys p q c lc untouched, link-row-kept b F G wf range after xs ys p q c lc untouched)
-
 -- ---- rows of axioms
 
--- An edit changes axioms with its own left side alone.
-pub edited-elsewhere : (m : Mode) (F : Axioms) (l r c d : ℕ) → (c ≡ l → ⊥) → edited m F l r c d ≡ F c d
-unfolding edited
-edited-elsewhere Add F l r c d other =
-    agree (edited Add F l r c d) (F c d) (λ e. ⊎-elim (λ f. f) (λ s. absurd (other (sym (s .0)))) (added-exact F l r c d .0 e)) (λ f. added-exact F l r c d .1 (inl f))
-edited-elsewhere Delete F l r c d other =
-    agree (edited Delete F l r c d) (F c d) (λ e. withdrawn-exact F l r c d .0 e .0) (λ f. withdrawn-exact F l r c d .1 (f, λ s. other (sym (s .0))))
-
-pub axiom-row-kept : {S T : Expression → Type 0} (m : Mode) (b : List ℕ) (F : Axioms) (l r : ℕ) (xs ys : List ℕ) → Marked b F S xs → Marked b (edited m F l r) T ys
-    → (c : ℕ) → c < concepts b → (c ≡ l → ⊥) → rowAt b ys (axiomRowAt b c) ≡ rowAt b xs (axiomRowAt b c)
-axiom-row-kept {S} {T} m b F l r xs ys p q c lc other = axiom-row-same b F (edited m F l r) S T xs ys p q c lc (λ d. edited-elsewhere m F l r c d other)
+-- A change alters axioms with the left side of one of its own alone.
+pub axiom-row-kept : {S T : Expression → Type 0} (b : List ℕ) (F : Axioms) (gone new : List ℕ) (xs ys : List ℕ) → Marked b F S xs → Marked b (edited F gone new) T ys
+    → (c : ℕ) → c < concepts b → ((d : ℕ) → listed gone c d ≡ false) → ((d : ℕ) → listed new c d ≡ false) → rowAt b ys (axiomRowAt b c) ≡ rowAt b xs (axiomRowAt b c)
+axiom-row-kept {S} {T} b F gone new xs ys p q c lc out not-in =
+    axiom-row-same b F (edited F gone new) S T xs ys p q c lc
+    (λ d.
+    agree (edited F gone new c d) (F c d)
+    (λ e. ⊎-elim (λ (f, n). f) (λ h. absurd (not-both h (not-in d))) (edited-exact F gone new c d .0 e))
+    (λ f. edited-exact F gone new c d .1 (inl (f, λ h. not-both h (out d)))))

@@ -1,3 +1,4 @@
+pub mod Lists
 pub mod Asking
 pub mod Checks
 pub mod Members
@@ -7,4 +8,8 @@ pub mod Unique
 pub mod Refusals
 pub mod Fresh
 pub mod Kept
+pub mod Rests
+pub mod Empty
+pub mod Permuted
 pub mod Wordings
+pub mod Single

@@ -1,4 +1,4 @@
--- The names of a set's members, rising: there is one such list, a name is on it exactly where it is a member, and a rising list is that of its members.
+-- The names of a set's members, rising: there is one such list, and a name is on it exactly where it is a member. A test of who is on a list.
 use Prim.Native.Nat.{ℕ, zero, suc, _<_}
 use native.Mathlib.Nat.{not-suc-le-zero}
 use native.Mathlib.Omega.{arith}
@@ -66,7 +66,7 @@ member-exact n T names p c = (
   λ t. subst (List·Memᴰ c) (sym (p .are)) (rising-member (p .test) n c (p .within c t) (p .decides c .1 t)),
 )
 
--- ---- a list by its members
+-- ---- who is on any list
 
 unfoldable pub onList : List ℕ → ℕ → Bool
 onList names c = some (λ x. eqb x c) names
@@ -77,13 +77,6 @@ on-list [] c e = absurd (false≢true e)
 on-list (x ∷ names) c e =
     ⊎-elim (λ h. List·Memᴰ·head (sym (eqb-true x c h))) (λ h. List·Memᴰ·tail (on-list names c h)) (either (eqb x c) (some (λ x. eqb x c) names) .0 e)
 
--- A rising list whose members are those of T.
-pub listed-members : (n : ℕ) (T : ℕ → Type 0) (names : List ℕ) → names ≡ rising (onList names) n → ((c : ℕ) → List·Memᴰ c names ↔ T c) → Members n T names
+pub on-list-exact : (names : List ℕ) (c : ℕ) → (onList names c ≡ true) ↔ List·Memᴰ c names
 unfolding onList
-listed-members n T names are exact =
-    record {
-      test = onList names;
-      decides = λ c. Iff·trans (on-list names c, λ m. true-some (λ x. eqb x c) names c m (eq-eqb c c refl)) (exact c);
-      within = λ c t. member-rising (onList names) n c (subst (List·Memᴰ c) are (exact c .1 t)) .0;
-      are = are;
-    }
+on-list-exact names c = (on-list names c, λ m. true-some (λ x. eqb x c) names c m (eq-eqb c c refl))

@@ -1,4 +1,4 @@
--- What an answer of an edit says of its checks, and the two ways that an edit ends: refused with every buffer as it was, and accepted. From a store that is
+-- What an answer of a change says of its checks, and the two ways that a change ends: refused with every buffer as it was, and accepted. From a store that is
 -- classified afresh it is enough that the counts, the list and the store after are those of the least sets.
 use Prim.Native.Nat.{ℕ}
 use mathlib.Core.Path.{_≡_, refl, sym, subst, _∙_}
@@ -9,7 +9,6 @@ use lib.ListN.{drop}
 use Rattle.catalogue.specs.Outcome.{Outcome, accepted, refused}
 use Rattle.catalogue.proofs.Outcomes.{never-both}
 use Rattle.derivation.specs.Decided.{Marked as Holding}
-use Rattle.derivation.specs.declared.Mode.{Mode}
 use Rattle.rules.specs.Axioms.{Axioms}
 use Rattle.rules.specs.Rules.{Expression, Closure}
 use Rattle.rules.specs.Changes.{NewSet}
@@ -22,54 +21,55 @@ use Rattle.store.proofs.Work.{work-stays}
 use Rattle.lists.specs.Lists.{withFront}
 use Rattle.edits.specs.declared.Changed.{Changed}
 use Rattle.edits.specs.declared.Changed.the-variants.{Refused}
+use Rattle.edits.specs.Lists.{edited}
 use Rattle.edits.specs.Answers.{outcomeOf}
-use Rattle.edits.specs.Edits.{edited, Effects, Lent, asked, Accepts, Edits}
+use Rattle.edits.specs.Edits.{Effects, Lent, asked, Accepts, Edits}
 use Rattle.edits.proofs.Checks.{Accepted, edit-accepted}
 use Rattle.edits.proofs.Sets.{marked-same, new-set-same, effects-same}
 
-module _ (m : Mode) (b : List ℕ) (l r : ℕ) (u : Lent) where
+module _ (b gone new : List ℕ) (u : Lent) where
   -- The answer's outcome is that of the checks.
-  pub answer-outcome : (a : Changed) (v : Lent) → Edits m b l r u a v → outcomeOf a ≡ asked m b l r u
-  answer-outcome a v p = go (asked m b l r u) refl
+  pub answer-outcome : (a : Changed) (v : Lent) → Edits b gone new u a v → outcomeOf a ≡ asked b gone new u
+  answer-outcome a v p = go (asked b gone new u) refl
     where
-      go : (o : Outcome) → asked m b l r u ≡ o → outcomeOf a ≡ asked m b l r u
+      go : (o : Outcome) → asked b gone new u ≡ o → outcomeOf a ≡ asked b gone new u
       go accepted e = p .accepts e .answers ∙ sym e
       go (refused number at) e = p .refuses number at e .answers ∙ sym e
 
-  pub ends-refused : (number at : ℕ) → asked m b l r u ≡ refused number at → Edits m b l r u (Refused number at) u
+  pub ends-refused : (number at : ℕ) → asked b gone new u ≡ refused number at → Edits b gone new u (Refused number at) u
   ends-refused number at e =
       record {
         refuses = λ n i q. record { answers = sym e ∙ q; store-kept = refl; work-kept = sym (work-stays (workUsed b) n (u .work)); list-kept = refl };
-        accepts = λ q. absurd (never-both (asked m b l r u) q e);
+        accepts = λ q. absurd (never-both (asked b gone new u) q e);
       }
 
-  pub ends-accepted : (a : Changed) (v : Lent) → asked m b l r u ≡ accepted → Accepts m b l r u a v → Edits m b l r u a v
-  ends-accepted a v e p = record { refuses = λ n i q. absurd (never-both (asked m b l r u) e q); accepts = λ q. p }
+  pub ends-accepted : (a : Changed) (v : Lent) → asked b gone new u ≡ accepted → Accepts b gone new u a v → Edits b gone new u a v
+  ends-accepted a v e p = record { refuses = λ n i q. absurd (never-both (asked b gone new u) e q); accepts = λ q. p }
 
 -- From a fresh store to a fresh store.
-pub record FreshEnd (m : Mode) (b : List ℕ) (l r : ℕ) (F : ℕ → ℕ → Bool) (u : Lent) (names : List ℕ) (a : Changed) (v : Lent) : Type 0 where
+pub record FreshEnd (b gone new : List ℕ) (F : ℕ → ℕ → Bool) (u : Lent) (names : List ℕ) (a : Changed) (v : Lent) : Type 0 where
   pub answers : outcomeOf a ≡ accepted
-  pub effects : Effects b m F (edited m F l r) (Closure b F) names a
-  pub fresh : Fresh b (edited m F l r) (v .store)
+  pub effects : Effects b F (edited F gone new) (Closure b F) names a
+  pub fresh : Fresh b (edited F gone new) (v .store)
   pub store-rest : drop (used b) (v .store) ≡ drop (used b) (u .store)
   pub work-zero : v .work ≡ zeroed (workUsed b) (u .work)
   pub list-is : v .list ≡ withFront names (u .list)
 
-module _ (m : Mode) (b : List ℕ) (l r : ℕ) (F : Axioms) (u : Lent) (names : List ℕ) (a : Changed) (v : Lent) (fresh : Fresh b F (u .store)) (ok : asked m b l r u ≡ accepted) where
-  accepts-own : F ≡ inForce b (u .store) → FreshEnd m b l r F u names a v → Accepts m b l r u a v
+module _ (b gone new : List ℕ) (F : Axioms) (u : Lent) (names : List ℕ) (a : Changed) (v : Lent) (fresh : Fresh b F (u .store)) (ok : asked b gone new u ≡ accepted) where
+  accepts-own : F ≡ inForce b (u .store) → FreshEnd b gone new F u names a v → Accepts b gone new u a v
   accepts-own own end =
       let F' = inForce b (u .store) in
-      let G = edited m F' l r in
+      let G = edited F' gone new in
       let H = Holding (held b (u .store)) in
-      let c : Accepted m b l r u = edit-accepted m b l r u ok in
+      let c : Accepted b gone new u = edit-accepted b gone new u ok in
       let least : (e : Expression) → Closure b F' e ↔ H e =
       let p : Fresh b F' (u .store) = subst (λ (E : Axioms). Fresh b E (u .store)) own fresh in λ e. (p .set e .1, p .set e .0)
       in
-      let q : FreshEnd m b l r F' u names a v = subst (λ (E : Axioms). FreshEnd m b l r E u names a v) own end in
+      let q : FreshEnd b gone new F' u names a v = subst (λ (E : Axioms). FreshEnd b gone new E u names a v) own end in
       record {
         answers = q .answers;
         names = names;
-        effects = effects-same b F' G (Closure b F') H least m names a (q .effects);
+        effects = effects-same b F' G (Closure b F') H least names a (q .effects);
         marked =
             marked-same b G (Closure b G) (NewSet b F' G H) (v .store)
             (λ e.
@@ -81,5 +81,5 @@ module _ (m : Mode) (b : List ℕ) (l r : ℕ) (F : Axioms) (u : Lent) (names : 
         list-is = q .list-is;
       }
 
-  pub ends-fresh : FreshEnd m b l r F u names a v → Edits m b l r u a v
-  ends-fresh end = ends-accepted m b l r u a v ok (accepts-own (sym (marked-axioms b F (u .store) fresh)) end)
+  pub ends-fresh : FreshEnd b gone new F u names a v → Edits b gone new u a v
+  ends-fresh end = ends-accepted b gone new u a v ok (accepts-own (sym (marked-axioms b F (u .store) fresh)) end)

@@ -1,29 +1,18 @@
--- The concepts that an edit lists; and sets held alike: an edit has the same effects on them, and a store that marks the one marks the other.
+-- Sets held alike: a change has the same effects on them, and a store that marks the one marks the other.
 use Prim.Native.Nat.{ℕ}
-use mathlib.Core.Logic.{_↔_, Iff·trans}
+use mathlib.Core.Logic.{_↔_, inl, inr, Iff·trans}
 use mathlib.Core.List.{List}
 use Rattle.catalogue.specs.Header.{concepts}
-use Rattle.derivation.specs.declared.Mode.{Mode}
-use Rattle.derivation.specs.declared.Mode.the-variants.{Add, Delete}
 use Rattle.rules.specs.Axioms.{Axioms}
 use Rattle.rules.specs.Rules.{Expression, EL, Permits}
-use Rattle.rules.specs.Changes.{OverDeleted, BrokenPartition, NewSet, ReturnedSet, GainedSet, GainingPartition}
+use Rattle.rules.specs.Changes.{OverDeleted, NewSet, ReturnedSet, GainedSet, GainingPartition, TouchedPartition}
 use Rattle.rules.proofs.Changes.{over-same, broken-same, after-same}
 use Rattle.rules.proofs.Counts.{size-same}
 use Rattle.store.specs.Fresh.{Marked}
 use Rattle.edits.specs.declared.Changed.{Changed}
 use Rattle.edits.specs.Answers.{removedOf, returnedOf, gainedOf}
-use Rattle.edits.specs.Edits.{Listed, gaining, broken, Effects}
+use Rattle.edits.specs.Edits.{Effects}
 use Rattle.edits.proofs.Members.{members-same}
-
--- An addition lists the partitions that gained, and a withdrawal the broken ones.
-pub listed-gaining : {b : List ℕ} {F G : Axioms} {H : Expression → Type 0} {c : ℕ} → Listed b F G H Add c → GainingPartition b F G H c
-listed-gaining (gaining g) = g
-
-pub listed-broken : {b : List ℕ} {F G : Axioms} {H : Expression → Type 0} {c : ℕ} → Listed b F G H Delete c → BrokenPartition b F G H c
-listed-broken (broken o) = o
-
--- ---- sets held alike
 
 pub marked-same : (b : List ℕ) (F : Axioms) (S T : Expression → Type 0) (store : List ℕ) → ((e : Expression) → S e ↔ T e) → Marked b F S store → Marked b F T store
 marked-same b F S T store same p =
@@ -39,9 +28,9 @@ module _ (b : List ℕ) (F G : Axioms) (H K : Expression → Type 0) (same : (e 
   gaining-same : (c : ℕ) → GainingPartition b F G H c → GainingPartition b F G K c
   gaining-same c (e, g, p) = (e, (after-same (EL b) (Permits b F) (Permits b G) H K same (g .0), λ k. g .1 (same e .1 k)), p)
 
-  listed-same : {m : Mode} {c : ℕ} → Listed b F G H m c → Listed b F G K m c
-  listed-same (gaining {c} g) = gaining (gaining-same c g)
-  listed-same (broken o) = broken (broken-same (EL b) (Permits b F) (Permits b G) H K same o)
+  touched-same : (c : ℕ) → TouchedPartition b F G H c → TouchedPartition b F G K c
+  touched-same c (inl o) = inl (broken-same (EL b) (Permits b F) (Permits b G) H K same o)
+  touched-same c (inr g) = inr (gaining-same c g)
 
 module _ (b : List ℕ) (F G : Axioms) (H K : Expression → Type 0) (same : (e : Expression) → H e ↔ K e) where
   back : (e : Expression) → K e ↔ H e
@@ -59,14 +48,14 @@ module _ (b : List ℕ) (F G : Axioms) (H K : Expression → Type 0) (same : (e 
   gained-same : (e : Expression) → GainedSet b F G H e ↔ GainedSet b F G K e
   gained-same e = (λ x. (new-set-same e .0 (x .0), λ k. x .1 (same e .1 k)), λ x. (new-set-same e .1 (x .0), λ h. x .1 (same e .0 h)))
 
-  pub effects-same : (m : Mode) (names : List ℕ) (a : Changed) → Effects b m F G H names a → Effects b m F G K names a
-  effects-same m names a p =
+  pub effects-same : (names : List ℕ) (a : Changed) → Effects b F G H names a → Effects b F G K names a
+  effects-same names a p =
       record {
         removed-counted = size-same b (OverDeleted b F G H) (OverDeleted b F G K) (removedOf a) removed-same (p .removed-counted);
         returned-counted = size-same b (ReturnedSet b F G H) (ReturnedSet b F G K) (returnedOf a) returned-same (p .returned-counted);
         gained-counted = size-same b (GainedSet b F G H) (GainedSet b F G K) (gainedOf a) gained-same (p .gained-counted);
         listed =
-            members-same (concepts b) (Listed b F G H m) (Listed b F G K m) names (λ c. (listed-same b F G H K same, listed-same b F G K H back))
+            members-same (concepts b) (TouchedPartition b F G H) (TouchedPartition b F G K) names (λ c. (touched-same b F G H K same c, touched-same b F G K H back c))
             (p .listed);
         touched-counted = p .touched-counted;
       }

@@ -1,4 +1,4 @@
--- An edit leaves one outcome: two exits at equal entries are equal, the answer and every lent byte.
+-- A change leaves one outcome: two exits at equal entries are equal, the answer and every lent byte.
 use Prim.Native.Nat.{ℕ}
 use native.Mathlib.Omega.{arith}
 use mathlib.Core.Path.{_≡_, refl, sym, ap, ap₂, _∙_}
@@ -7,18 +7,18 @@ use lib.ListN.{length, take-append-drop}
 use Rattle.catalogue.specs.Header.{concepts}
 use Rattle.catalogue.specs.Outcome.{Outcome, accepted, refused}
 use Rattle.derivation.specs.Decided.{Marked as Holding}
-use Rattle.derivation.specs.declared.Mode.{Mode}
 use Rattle.rules.specs.Axioms.{Axioms}
 use Rattle.rules.specs.Rules.{Expression}
-use Rattle.rules.specs.Changes.{OverDeleted, NewSet, ReturnedSet, GainedSet}
+use Rattle.rules.specs.Changes.{OverDeleted, NewSet, ReturnedSet, GainedSet, TouchedPartition}
 use Rattle.rules.proofs.Counts.{size-unique}
 use Rattle.layout.specs.Parts.{used, inForce, held}
 use Rattle.store.proofs.Fresh.{marked-unique}
 use Rattle.lists.specs.Lists.{withFront}
 use Rattle.edits.specs.declared.Changed.{Changed}
 use Rattle.edits.specs.declared.Changed.the-variants.{Done, Refused}
+use Rattle.edits.specs.Lists.{edited}
 use Rattle.edits.specs.Answers.{outcomeOf, removedOf, returnedOf, gainedOf, touchedOf}
-use Rattle.edits.specs.Edits.{edited, Listed, Effects, Lent, lend, asked, Edits}
+use Rattle.edits.specs.Edits.{Effects, Lent, lend, asked, Edits}
 use Rattle.edits.proofs.Checks.{edit-accepted}
 use Rattle.edits.proofs.Members.{members-unique}
 
@@ -33,9 +33,9 @@ accepted-answer (Done removed returned gained touched) e p q r s = cc
 accepted-answer (Refused number at) e p q r s = let z : _≡_ {A = ℕ} 0 1 = cc in absurd (omega arith)
 
 -- The effects leave one list of names, and one of each count.
-module _ (b : List ℕ) (m : Mode) (F G : Axioms) (H : Expression → Type 0) (names names' : List ℕ) (a a' : Changed) (p : Effects b m F G H names a) (q : Effects b m F G H names' a') where
+module _ (b : List ℕ) (F G : Axioms) (H : Expression → Type 0) (names names' : List ℕ) (a a' : Changed) (p : Effects b F G H names a) (q : Effects b F G H names' a') where
   names-unique : names ≡ names'
-  names-unique = members-unique (concepts b) (Listed b F G H m) names names' (p .listed) (q .listed)
+  names-unique = members-unique (concepts b) (TouchedPartition b F G H) names names' (p .listed) (q .listed)
 
   pub effects-unique : outcomeOf a ≡ accepted → outcomeOf a' ≡ accepted → (a ≡ a') × (names ≡ names')
   effects-unique e e' =
@@ -49,8 +49,8 @@ module _ (b : List ℕ) (m : Mode) (F G : Axioms) (H : Expression → Type 0) (n
 pub same-buffers : {u v : Lent} → u .store ≡ v .store → u .work ≡ v .work → u .list ≡ v .list → u ≡ v
 same-buffers {u} {v} s w t = ap₂ (λ (x y : List ℕ). lend x y (u .list)) s w ∙ ap (lend (v .store) (v .work)) t
 
-module _ (m : Mode) (b : List ℕ) (l r : ℕ) (u : Lent) (a a' : Changed) (v v' : Lent) (p : Edits m b l r u a v) (q : Edits m b l r u a' v') where
-  unique-by : (o : Outcome) → asked m b l r u ≡ o → (a ≡ a') × (v ≡ v')
+module _ (b gone new : List ℕ) (u : Lent) (a a' : Changed) (v v' : Lent) (p : Edits b gone new u a v) (q : Edits b gone new u a' v') where
+  unique-by : (o : Outcome) → asked b gone new u ≡ o → (a ≡ a') × (v ≡ v')
   unique-by (refused number at) e =
       let x = p .refuses number at e in
       let y = q .refuses number at e in (
@@ -61,10 +61,10 @@ module _ (m : Mode) (b : List ℕ) (l r : ℕ) (u : Lent) (a a' : Changed) (v v'
       let x = p .accepts e in
       let y = q .accepts e in
       let F = inForce b (u .store) in
-      let G = edited m F l r in
+      let G = edited F gone new in
       let H = Holding (held b (u .store)) in
-      let (same, names) = effects-unique b m F G H (x .names) (y .names) a a' (x .effects) (y .effects) (x .answers) (y .answers) in
-      let front = marked-unique b G (NewSet b F G H) (v .store) (v' .store) (edit-accepted m b l r u e .well-formed) (x .marked) (y .marked) in (
+      let (same, names) = effects-unique b F G H (x .names) (y .names) a a' (x .effects) (y .effects) (x .answers) (y .answers) in
+      let front = marked-unique b G (NewSet b F G H) (v .store) (v' .store) (edit-accepted b gone new u e .well-formed) (x .marked) (y .marked) in (
         same,
         same-buffers
             (sym (take-append-drop (used b) (v .store)) ∙ ap₂ _++_ front (x .store-rest ∙ sym (y .store-rest)) ∙ take-append-drop (used b) (v' .store))
@@ -73,4 +73,4 @@ module _ (m : Mode) (b : List ℕ) (l r : ℕ) (u : Lent) (a a' : Changed) (v v'
       )
 
   pub edit-unique : (a ≡ a') × (v ≡ v')
-  edit-unique = unique-by (asked m b l r u) refl
+  edit-unique = unique-by (asked b gone new u) refl

@@ -1,3 +1,7 @@
 pub mod Answers
-pub mod Edits
+pub mod Lists
 pub mod Questions
+pub mod Edits
+pub mod Empty
+pub mod Permuted
+pub mod Single

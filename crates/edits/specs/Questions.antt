@@ -1,26 +1,89 @@
--- The questions of an edit in groups, as they are put: the catalogue's, the lengths', and those of the store's content.
-use Prim.Native.Nat.{ℕ}
-use mathlib.Core.Bool.{Bool}
-use mathlib.Core.List.{List, [], _∷_}
-use Rattle.catalogue.specs.Outcome.{Outcome, accepted}
-use Rattle.derivation.specs.declared.Mode.{Mode}
-use Rattle.derivation.specs.declared.Mode.the-variants.{Add, Delete}
+-- The questions of a change, each under its own name, in their order (document 02, request Four): 1 to 12, 22, 23, 13, 14, 15, 18, 16, 17. They take the
+-- lengths lent, the answers to 13 and 14, and the axioms in force F. The call reads answers and F off its store; the axioms in force by arguments alone
+-- (document 01: the book) have yes, yes and F.
+use Prim.Native.Nat.{ℕ, _%_}
+use mathlib.Core.Bool.{Bool, not, _&&_}
+use mathlib.Core.List.{List, _++_}
+use lib.Dec.{leb, eqb}
+use lib.ListN.{length}
+use Rattle.rows.specs.Bits.{someBelow}
+use Rattle.catalogue.specs.Outcome.{Outcome, accepted, ask}
+use Rattle.catalogue.specs.Checks.{catalogueChecks}
 use Rattle.rules.specs.Axioms.{Axioms}
-use Rattle.store.specs.Checks.{askStore, askWork, askList, askSpare, askLimit, askNumbers, askNew, askRoom, askInForce}
-use Rattle.store.specs.Changes.{Lengths}
+use Rattle.store.specs.Checks.{axiomsInLimit, askStore, askWork, askList, askSpare, askLimit, askNumbers}
+use Rattle.edits.specs.Lists.{axiomsIn, leftIn, rightIn, among, sidesIn, edited}
+
+-- The lengths of the buffers lent.
+pub record Lengths : Type 0 where
+  pub store : ℕ
+  pub work : ℕ
+  pub list : ℕ
 
 abbrev pub lent : (store work list : ℕ) → Lengths
 lent store work list = record { store = store; work = work; list = list }
 
--- 10 to 12.
-unfoldable pub lengthChecks : List ℕ → Lengths → Outcome
-lengthChecks b lent = askStore b (lent .store) (askWork b (lent .work) (askList b (lent .list) accepted))
+-- 22: a list of at most 64 axioms, and of whole ones?
+unfoldable pub isWhole : ℕ → Bool
+isWhole long = leb long 256 && eqb (long % 4) 0
 
--- 16 and 17 to add, 18 to withdraw.
-unfoldable pub askEdit : Mode → List ℕ → Axioms → (l r : ℕ) → Outcome
-askEdit Add b F l r = askNew F l r (askRoom b F accepted)
-askEdit Delete b F l r = askInForce F l r accepted
+-- 23: no axiom twice? Axiom k repeats one before it.
+unfoldable pub repeats : List ℕ → ℕ → Bool
+repeats list k = among list k (leftIn list k) (rightIn list k)
 
--- 13 and on.
-unfoldable pub contentChecks : Mode → (b : List ℕ) (l r : ℕ) (clear few : Bool) → Axioms → Outcome
-contentChecks m b l r clear few F = askSpare clear (askLimit few (askNumbers b (l ∷ r ∷ []) (askEdit m b F l r)))
+unfoldable pub noneTwice : List ℕ → Bool
+noneTwice list = not (someBelow (repeats list) (axiomsIn list))
+
+-- 18: is every axiom of a list in force? 16: is none?
+unfoldable pub allInForce : Axioms → List ℕ → Bool
+allInForce F list = not (someBelow (λ k. not (F (leftIn list k) (rightIn list k))) (axiomsIn list))
+
+unfoldable pub noneInForce : Axioms → List ℕ → Bool
+noneInForce F list = not (someBelow (λ k. F (leftIn list k) (rightIn list k)) (axiomsIn list))
+
+-- Each question, and then the rest.
+unfoldable pub askWhole : (gone new : ℕ) → Outcome → Outcome
+askWhole gone new rest = ask (isWhole gone && isWhole new) 22 0 rest
+
+unfoldable pub askTwice : List ℕ → Outcome → Outcome
+askTwice list rest = ask (noneTwice list) 23 0 rest
+
+unfoldable pub askInForce : Axioms → List ℕ → Outcome → Outcome
+askInForce F gone rest = ask (allInForce F gone) 18 0 rest
+
+unfoldable pub askNew : Axioms → List ℕ → Outcome → Outcome
+askNew F new rest = ask (noneInForce F new) 16 0 rest
+
+-- 17: at most 4,096 afterwards, G being in force then?
+unfoldable pub askRoom : List ℕ → Axioms → Outcome → Outcome
+askRoom b G rest = ask (axiomsInLimit b G) 17 0 rest
+
+-- 10 to 12 and 22.
+unfoldable pub lengthChecks : (b : List ℕ) (gone new : ℕ) → Lengths → Outcome → Outcome
+lengthChecks b gone new lent rest =
+    askStore b (lent .store)
+    (askWork b (lent .work)
+    (askList b (lent .list)
+    (askWhole gone new
+    rest)))
+
+-- 18, 16 and 17.
+unfoldable pub axiomChecks : (b gone new : List ℕ) → Axioms → Outcome
+axiomChecks b gone new F =
+    askInForce F gone
+    (askNew F new
+    (askRoom b (edited F gone new)
+    accepted))
+
+-- 23, and what is asked of the store's content.
+unfoldable pub contentChecks : (b gone new : List ℕ) → (clear few : Bool) → Axioms → Outcome
+contentChecks b gone new clear few F =
+    askTwice (gone ++ new)
+    (askSpare clear
+    (askLimit few
+    (askNumbers b (sidesIn (gone ++ new))
+    (axiomChecks b gone new F))))
+
+-- All of them, for a change that withdraws the axioms of `gone` and adds those of `new`.
+unfoldable pub changeChecks : (b gone new : List ℕ) → Lengths → (clear few : Bool) → Axioms → Outcome
+changeChecks b gone new lent clear few F =
+    catalogueChecks b (lengthChecks b (length gone) (length new) lent (contentChecks b gone new clear few F))

@@ -1,5 +1,4 @@
-// Edits (document 01, Changes): one axiom added to those in force, or one withdrawn.
-pub mod questions; // questions.rt: what an edit asks, in its order
+// Changes of the axioms in force (document 01, Changes; document 02, request Four): some withdrawn and some added, at once.
 
 // The counts of expressions removed, returned and gained, and of concepts listed as touched; or the number of the question that was answered no, and the
 // record at fault.

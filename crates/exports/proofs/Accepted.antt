@@ -10,7 +10,6 @@ use Rattle.catalogue.specs.Outcome.{Outcome, accepted}
 use Rattle.catalogue.proofs.Outcomes.{never-both}
 use Rattle.catalogue.proofs.Refusals.{Small}
 use Rattle.classification.proofs.Refusals.{small-classify}
-use Rattle.derivation.specs.declared.Mode.the-variants.{Add, Delete}
 use Rattle.edits.specs.Edits.{lend}
 use Rattle.edits.proofs.Refusals.{small-edit}
 use Rattle.lookups.proofs.Refusals.{small-read, small-list}
@@ -19,7 +18,7 @@ use Rattle.exports.specs.declared.Reply.{Reply}
 use Rattle.exports.specs.declared.Reply.the-variants.{Accepted, Refused}
 use Rattle.exports.specs.Answers.{returned, Exported}
 use Rattle.exports.specs.Accepted.{ZeroExactly, ZeroIfAccepted}
-use Rattle.exports.proofs.Replies.{outcomeOf, classify-outcome, edit-outcome, lookup-outcome, list-outcome, row-outcome, write-outcome}
+use Rattle.exports.proofs.Replies.{outcomeOf, classify-outcome, change-outcome, lookup-outcome, list-outcome, row-outcome, write-outcome}
 
 reply-zero : {o : Outcome} (reply : Reply) → outcomeOf reply ≡ o → Small o → (returned reply ≡ 0) ↔ (o ≡ accepted)
 reply-zero (Accepted first second third fourth) e s = (λ _. sym e, λ _. refl)
@@ -45,8 +44,7 @@ pub zero-if-accepted : ZeroIfAccepted
 zero-if-accepted =
     record {
       classify = λ b store work answer r store' work' answer' p. exported-zero (small-classify b (length store) (length work)) classify-outcome p;
-      add = λ b left right store work list answer r store' work' list' answer' p. exported-zero (small-edit Add b left right (lend store work list)) edit-outcome p;
-      withdraw = λ b left right store work list answer r store' work' list' answer' p. exported-zero (small-edit Delete b left right (lend store work list)) edit-outcome p;
+      change = λ b gone new store work list answer r store' work' list' answer' p. exported-zero (small-edit b gone new (lend store work list)) change-outcome p;
       lookup = λ b c d store answer r answer' p. exported-zero (small-read b (c ∷ d ∷ []) store) (lookup-outcome b c d store) p;
       list = λ b d store list answer r list' answer' p. exported-zero (small-list b (d ∷ []) store (length list)) list-outcome p;
       row = λ b c store answer r answer' p. exported-zero (small-read b (c ∷ []) store) (row-outcome b c store) p;

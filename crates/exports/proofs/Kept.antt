@@ -11,8 +11,6 @@ use Rattle.classification.specs.declared.Classified.{Classified}
 use Rattle.classification.specs.declared.Classified.the-variants.{Done}
 use Rattle.classification.specs.Classified.{Classifies}
 use Rattle.classification.proofs.Outcomes.{answer-outcome}
-use Rattle.derivation.specs.declared.Mode.{Mode}
-use Rattle.derivation.specs.declared.Mode.the-variants.{Add, Delete}
 use Rattle.edits.specs.declared.Changed.{Changed}
 use Rattle.edits.specs.declared.Changed.the-variants.{Done}
 use Rattle.edits.specs.Edits.{Lent, lend, Edits}
@@ -28,7 +26,7 @@ use Rattle.exports.specs.declared.Reply.{Reply}
 use Rattle.exports.specs.declared.Reply.the-variants.{Accepted, Refused}
 use Rattle.exports.specs.Answers.{Given, Exported}
 use Rattle.exports.specs.Classify.{classifyReply, ClassifyExported}
-use Rattle.exports.specs.Edits.{editReply, AddExported, WithdrawExported}
+use Rattle.exports.specs.Change.{changeReply, ChangeExported}
 use Rattle.exports.specs.Lookups.{listReply, LookupExported, ListExported, RowExported}
 use Rattle.exports.specs.Write.{writeReply, WriteExported}
 
@@ -71,26 +69,19 @@ classify-kept b store work answer r s w a p n =
     let u = exported-kept (classifies-kept b store work s w) p n in
     (λ i. u .0 i .0, λ i. u .0 i .1, u .1)
 
--- ---- add and withdraw
+-- ---- change
 
-edits-kept : (m : Mode) (b : List ℕ) (l r : ℕ) (u v : Lent) (call : Changed) (number at : ℕ) → Edits m b l r u call v → editReply call ≡ Refused number at → v ≡ u
-edits-kept m b l r u v (Done removed returned gained touched) number at p e = absurd (never-accepted e)
-edits-kept m b l r u v (Changed.Refused n a) number at p e =
-    let x = p .refuses n a (sym (edit-asked m b l r u (Changed.Refused n a) v p)) in
+edits-kept : (b gone new : List ℕ) (u v : Lent) (call : Changed) (number at : ℕ) → Edits b gone new u call v → changeReply call ≡ Refused number at → v ≡ u
+edits-kept b gone new u v (Done removed returned gained touched) number at p e = absurd (never-accepted e)
+edits-kept b gone new u v (Changed.Refused n a) number at p e =
+    let x = p .refuses n a (sym (edit-asked b gone new u (Changed.Refused n a) v p)) in
     same-buffers (x .store-kept) (x .work-kept ∙ work-stays _ n (u .work)) (x .list-kept)
 
-pub add-kept : (b : List ℕ) (left right : ℕ) (store work list answer : List ℕ) (r : ℕ) (s w t a : List ℕ)
-    → AddExported b left right store work list answer r s w t a → (r ≡ 0 → ⊥)
+pub change-kept : (b gone new store work list answer : List ℕ) (r : ℕ) (s w t a : List ℕ)
+    → ChangeExported b gone new store work list answer r s w t a → (r ≡ 0 → ⊥)
     → (s ≡ store) × (w ≡ work) × (t ≡ list) × (a ≡ answer)
-add-kept b left right store work list answer r s w t a p n =
-    let u = exported-kept (edits-kept Add b left right (lend store work list) (lend s w t)) p n in
-    (λ i. u .0 i .store, λ i. u .0 i .work, λ i. u .0 i .list, u .1)
-
-pub withdraw-kept : (b : List ℕ) (left right : ℕ) (store work list answer : List ℕ) (r : ℕ) (s w t a : List ℕ)
-    → WithdrawExported b left right store work list answer r s w t a → (r ≡ 0 → ⊥)
-    → (s ≡ store) × (w ≡ work) × (t ≡ list) × (a ≡ answer)
-withdraw-kept b left right store work list answer r s w t a p n =
-    let u = exported-kept (edits-kept Delete b left right (lend store work list) (lend s w t)) p n in
+change-kept b gone new store work list answer r s w t a p n =
+    let u = exported-kept (edits-kept b gone new (lend store work list) (lend s w t)) p n in
     (λ i. u .0 i .store, λ i. u .0 i .work, λ i. u .0 i .list, u .1)
 
 -- ---- lookup, list and row

@@ -10,7 +10,6 @@ use Rattle.catalogue.proofs.Refusals.{Small}
 use Rattle.classification.specs.declared.Classified.{Classified}
 use Rattle.classification.specs.Classified.{Classifies}
 use Rattle.classification.proofs.Refusals.{small-classify}
-use Rattle.derivation.specs.declared.Mode.{Mode}
 use Rattle.edits.specs.declared.Changed.{Changed}
 use Rattle.edits.specs.Edits.{Lent, Edits}
 use Rattle.edits.proofs.Refusals.{small-edit}
@@ -26,10 +25,10 @@ use Rattle.exports.specs.declared.Reply.{Reply}
 use Rattle.exports.specs.declared.Reply.the-variants.{Accepted, Refused}
 use Rattle.exports.specs.Answers.{returned}
 use Rattle.exports.specs.Classify.{classifyReply}
-use Rattle.exports.specs.Edits.{editReply}
+use Rattle.exports.specs.Change.{changeReply}
 use Rattle.exports.specs.Lookups.{lookupReply, listReply, rowReply}
 use Rattle.exports.specs.Write.{writeReply}
-use Rattle.exports.proofs.Replies.{outcomeOf, classify-outcome, edit-outcome, lookup-outcome, list-outcome, row-outcome, write-outcome}
+use Rattle.exports.proofs.Replies.{outcomeOf, classify-outcome, change-outcome, lookup-outcome, list-outcome, row-outcome, write-outcome}
 
 reply-fits : {o : Outcome} (reply : Reply) → outcomeOf reply ≡ o → Small o → returned reply < 2 ^ 64
 reply-fits (Accepted first second third fourth) e s = lit< tt
@@ -38,8 +37,8 @@ reply-fits (Refused number at) e s = omega (arith, s .small number at (sym e))
 pub classify-fits : {b store work s w : List ℕ} (call : Classified) → Classifies b store work call s w → returned (classifyReply call) < 2 ^ 64
 classify-fits {b} {store} {work} call p = reply-fits (classifyReply call) (classify-outcome call p) (small-classify b (length store) (length work))
 
-pub edit-fits : {m : Mode} {b : List ℕ} {l r : ℕ} {u v : Lent} (call : Changed) → Edits m b l r u call v → returned (editReply call) < 2 ^ 64
-edit-fits {m} {b} {l} {r} {u} call p = reply-fits (editReply call) (edit-outcome call p) (small-edit m b l r u)
+pub edit-fits : {b gone new : List ℕ} {u v : Lent} (call : Changed) → Edits b gone new u call v → returned (changeReply call) < 2 ^ 64
+edit-fits {b} {gone} {new} {u} call p = reply-fits (changeReply call) (change-outcome call p) (small-edit b gone new u)
 
 pub lookup-fits : (b : List ℕ) (c d : ℕ) (store : List ℕ) → returned (lookupReply (lookedUp b c d store)) < 2 ^ 64
 lookup-fits b c d store = reply-fits (lookupReply (lookedUp b c d store)) (lookup-outcome b c d store (lookedUp b c d store) refl) (small-read b (c ∷ d ∷ []) store)

@@ -9,7 +9,6 @@ use Rattle.classification.specs.declared.Classified.{Classified}
 use Rattle.classification.specs.declared.Classified.the-variants.{Done}
 use Rattle.classification.specs.Classified.{classifyChecks, Classifies}
 use Rattle.classification.proofs.Outcomes.{answer-outcome}
-use Rattle.derivation.specs.declared.Mode.{Mode}
 use Rattle.edits.specs.declared.Changed.{Changed}
 use Rattle.edits.specs.declared.Changed.the-variants.{Done}
 use Rattle.edits.specs.Edits.{Lent, asked, Edits}
@@ -26,7 +25,7 @@ use Rattle.writing.specs.Write.{ByOutcome, wrote, stays}
 use Rattle.exports.specs.declared.Reply.{Reply}
 use Rattle.exports.specs.declared.Reply.the-variants.{Accepted, Refused}
 use Rattle.exports.specs.Classify.{classifyReply}
-use Rattle.exports.specs.Edits.{editReply}
+use Rattle.exports.specs.Change.{changeReply}
 use Rattle.exports.specs.Lookups.{lookupReply, listReply, rowReply}
 use Rattle.exports.specs.Write.{writeReply}
 
@@ -40,9 +39,9 @@ pub classify-outcome : {b store work s w : List ℕ} (call : Classified) → Cla
 classify-outcome {b} {store} {work} {s} {w} (Done pairs links) p = answer-outcome b store work (Done pairs links) s w p
 classify-outcome {b} {store} {work} {s} {w} (Classified.Refused number at) p = answer-outcome b store work (Classified.Refused number at) s w p
 
-pub edit-outcome : {m : Mode} {b : List ℕ} {l r : ℕ} {u v : Lent} (call : Changed) → Edits m b l r u call v → outcomeOf (editReply call) ≡ asked m b l r u
-edit-outcome {m} {b} {l} {r} {u} {v} (Done removed returned gained touched) p = edit-asked m b l r u (Done removed returned gained touched) v p
-edit-outcome {m} {b} {l} {r} {u} {v} (Changed.Refused number at) p = edit-asked m b l r u (Changed.Refused number at) v p
+pub change-outcome : {b gone new : List ℕ} {u v : Lent} (call : Changed) → Edits b gone new u call v → outcomeOf (changeReply call) ≡ asked b gone new u
+change-outcome {b} {gone} {new} {u} {v} (Done removed returned gained touched) p = edit-asked b gone new u (Done removed returned gained touched) v p
+change-outcome {b} {gone} {new} {u} {v} (Changed.Refused number at) p = edit-asked b gone new u (Changed.Refused number at) v p
 
 looked-outcome : (o : Outcome) (has : Bool) → outcomeOf (lookupReply (looked o has)) ≡ o
 looked-outcome accepted true = refl

@@ -8,7 +8,6 @@ use lib.ListN.{length}
 use Rattle.classification.specs.declared.Classified.{Classified}
 use Rattle.classification.specs.Classified.{Classifies}
 use Rattle.classification.proofs.Unique.{classifies-unique}
-use Rattle.derivation.specs.declared.Mode.the-variants.{Add, Delete}
 use Rattle.edits.specs.Edits.{lend}
 use Rattle.edits.proofs.Unique.{edit-unique}
 use Rattle.lookups.proofs.Unique.{lists-unique}
@@ -16,7 +15,7 @@ use Rattle.writing.proofs.Unique.{by-outcome-unique}
 use Rattle.exports.specs.declared.Reply.{Reply}
 use Rattle.exports.specs.Answers.{returned, entries, Exported}
 use Rattle.exports.specs.Classify.{ClassifyExported}
-use Rattle.exports.specs.Edits.{AddExported, WithdrawExported}
+use Rattle.exports.specs.Change.{ChangeExported}
 use Rattle.exports.specs.Lookups.{LookupExported, ListExported, RowExported}
 use Rattle.exports.specs.Write.{WriteExported}
 
@@ -55,18 +54,11 @@ classify-unique b store work answer r r' s s' w w' a a' p q =
     let u = exported-unique (classifies-one b store work s s' w w') p q in
     (u .0, λ i. u .1 i .0, λ i. u .1 i .1, u .2)
 
-pub add-unique : (b : List ℕ) (left right : ℕ) (store work list answer : List ℕ) (r r' : ℕ) (s s' w w' t t' a a' : List ℕ)
-    → AddExported b left right store work list answer r s w t a → AddExported b left right store work list answer r' s' w' t' a'
+pub change-unique : (b gone new store work list answer : List ℕ) (r r' : ℕ) (s s' w w' t t' a a' : List ℕ)
+    → ChangeExported b gone new store work list answer r s w t a → ChangeExported b gone new store work list answer r' s' w' t' a'
     → (r ≡ r') × (s ≡ s') × (w ≡ w') × (t ≡ t') × (a ≡ a')
-add-unique b left right store work list answer r r' s s' w w' t t' a a' p q =
-    let u = exported-unique (λ call call'. edit-unique Add b left right (lend store work list) call call' (lend s w t) (lend s' w' t')) p q in
-    (u .0, λ i. u .1 i .store, λ i. u .1 i .work, λ i. u .1 i .list, u .2)
-
-pub withdraw-unique : (b : List ℕ) (left right : ℕ) (store work list answer : List ℕ) (r r' : ℕ) (s s' w w' t t' a a' : List ℕ)
-    → WithdrawExported b left right store work list answer r s w t a → WithdrawExported b left right store work list answer r' s' w' t' a'
-    → (r ≡ r') × (s ≡ s') × (w ≡ w') × (t ≡ t') × (a ≡ a')
-withdraw-unique b left right store work list answer r r' s s' w w' t t' a a' p q =
-    let u = exported-unique (λ call call'. edit-unique Delete b left right (lend store work list) call call' (lend s w t) (lend s' w' t')) p q in
+change-unique b gone new store work list answer r r' s s' w w' t t' a a' p q =
+    let u = exported-unique (λ call call'. edit-unique b gone new (lend store work list) call call' (lend s w t) (lend s' w' t')) p q in
     (u .0, λ i. u .1 i .store, λ i. u .1 i .work, λ i. u .1 i .list, u .2)
 
 pub lookup-unique : (b : List ℕ) (c d : ℕ) (store answer : List ℕ) (r r' : ℕ) (a a' : List ℕ)

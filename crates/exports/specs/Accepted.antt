@@ -5,13 +5,12 @@ use mathlib.Core.Logic.{_↔_}
 use mathlib.Core.List.{List, [], _∷_}
 use lib.ListN.{length}
 use Rattle.catalogue.specs.Outcome.{Outcome, accepted}
-use Rattle.derivation.specs.declared.Mode.the-variants.{Add, Delete}
 use Rattle.classification.specs.Classified.{classifyChecks}
 use Rattle.edits.specs.Edits.{lend, asked}
 use Rattle.lookups.specs.Checks.{readChecks, listChecks}
 use Rattle.writing.specs.Write.{writeChecks}
 use Rattle.exports.specs.Classify.{ClassifyExported}
-use Rattle.exports.specs.Edits.{AddExported, WithdrawExported}
+use Rattle.exports.specs.Change.{ChangeExported}
 use Rattle.exports.specs.Lookups.{LookupExported, ListExported, RowExported}
 use Rattle.exports.specs.Write.{WriteExported}
 
@@ -23,10 +22,8 @@ ZeroExactly answer o r = (r ≡ 0) ↔ ((4 ≤ length answer) × (o ≡ accepted
 pub record ZeroIfAccepted : Type 0 where
   pub classify : (b store work answer : List ℕ) (r : ℕ) (store' work' answer' : List ℕ) → ClassifyExported b store work answer r store' work' answer'
       → ZeroExactly answer (classifyChecks b (length store) (length work)) r
-  pub add : (b : List ℕ) (left right : ℕ) (store work list answer : List ℕ) (r : ℕ) (store' work' list' answer' : List ℕ)
-      → AddExported b left right store work list answer r store' work' list' answer' → ZeroExactly answer (asked Add b left right (lend store work list)) r
-  pub withdraw : (b : List ℕ) (left right : ℕ) (store work list answer : List ℕ) (r : ℕ) (store' work' list' answer' : List ℕ)
-      → WithdrawExported b left right store work list answer r store' work' list' answer' → ZeroExactly answer (asked Delete b left right (lend store work list)) r
+  pub change : (b gone new store work list answer : List ℕ) (r : ℕ) (store' work' list' answer' : List ℕ)
+      → ChangeExported b gone new store work list answer r store' work' list' answer' → ZeroExactly answer (asked b gone new (lend store work list)) r
   pub lookup : (b : List ℕ) (c d : ℕ) (store answer : List ℕ) (r : ℕ) (answer' : List ℕ) → LookupExported b c d store answer r answer'
       → ZeroExactly answer (readChecks b (c ∷ d ∷ []) store) r
   pub list : (b : List ℕ) (d : ℕ) (store list answer : List ℕ) (r : ℕ) (list' answer' : List ℕ) → ListExported b d store list answer r list' answer'

@@ -1,6 +1,6 @@
 pub mod Answers
 pub mod Classify
-pub mod Edits
+pub mod Change
 pub mod Lookups
 pub mod Write
 pub mod Accepted

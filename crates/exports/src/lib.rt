@@ -4,7 +4,7 @@ ghost use Prim.Native.Nat.{_≤_, _<_, _^_};
 ghost use lib.ListN.{length};
 ghost use Rattle.exports.specs.Answers.{returned, answered, Given};
 ghost use Rattle.exports.specs.Classify.{classifyReply, ClassifyExported};
-ghost use Rattle.exports.specs.Edits.{editReply, AddExported, WithdrawExported};
+ghost use Rattle.exports.specs.Change.{changeReply, ChangeExported};
 ghost use Rattle.exports.specs.Lookups.{lookupReply, LookupExported, listReply, ListExported, rowReply, RowExported};
 ghost use Rattle.exports.specs.Write.{writeReply, WriteExported};
 use classification::Classified;
@@ -61,9 +61,9 @@ fn classify_reply(classified: Classified) -> Reply
     }
 }
 
-// The reply of an edit: removed, returned, gained, and the count of concepts listed as touched.
-fn edit_reply(changed: Changed) -> Reply
-    ensures { λ r. ⌜ r ≡ editReply changed ⌝ }
+// The reply of a change: removed, returned, gained, and the count of concepts listed as touched.
+fn change_reply(changed: Changed) -> Reply
+    ensures { λ r. ⌜ r ≡ changeReply changed ⌝ }
 {
     match changed {
         Changed::Done(removed, returned, gained, touched) => Reply::Accepted(
@@ -134,44 +134,24 @@ pub extern "C" fn girvotal_classify(
     give(answer, classify_reply(classified))
 }
 
-// Add an axiom.
+// Change the axioms in force: those of one list are withdrawn, and those of the other added.
 #[no_mangle]
-pub extern "C" fn girvotal_add(
+pub extern "C" fn girvotal_change(
     catalogue: &[u8],
-    left: usize,
-    right: usize,
+    withdrawn: &[u8],
+    added: &[u8],
     store: &mut [u8],
     work: &mut [u8],
-    list: &mut [u8],
+    touched: &mut [u8],
     answer: &mut [u64],
 ) -> usize
-    ensures { λ r. ⌜ AddExported (now (catalogue .entry)) left right (now (store .entry)) (now (work .entry)) (now (list .entry)) (now (answer .entry)) r (now (store .exit)) (now (work .exit)) (now (list .exit)) (now (answer .exit)) ⌝ }
+    ensures { λ r. ⌜ ChangeExported (now (catalogue .entry)) (now (withdrawn .entry)) (now (added .entry)) (now (store .entry)) (now (work .entry)) (now (touched .entry)) (now (answer .entry)) r (now (store .exit)) (now (work .exit)) (now (touched .exit)) (now (answer .exit)) ⌝ }
 {
     if answer.len() < ENTRIES {
         return SHORT_ANSWER;
     }
-    let changed = adding::add(catalogue, left, right, store, work, list);
-    give(answer, edit_reply(changed))
-}
-
-// Withdraw an axiom.
-#[no_mangle]
-pub extern "C" fn girvotal_withdraw(
-    catalogue: &[u8],
-    left: usize,
-    right: usize,
-    store: &mut [u8],
-    work: &mut [u8],
-    list: &mut [u8],
-    answer: &mut [u64],
-) -> usize
-    ensures { λ r. ⌜ WithdrawExported (now (catalogue .entry)) left right (now (store .entry)) (now (work .entry)) (now (list .entry)) (now (answer .entry)) r (now (store .exit)) (now (work .exit)) (now (list .exit)) (now (answer .exit)) ⌝ }
-{
-    if answer.len() < ENTRIES {
-        return SHORT_ANSWER;
-    }
-    let changed = withdrawing::withdraw(catalogue, left, right, store, work, list);
-    give(answer, edit_reply(changed))
+    let changed = amending::change(catalogue, withdrawn, added, store, work, touched);
+    give(answer, change_reply(changed))
 }
 
 // Look up the pair of two concepts.

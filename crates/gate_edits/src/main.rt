@@ -1,11 +1,11 @@
-// Runs the steps of its input on one store, and writes what each call answers and leaves in the buffers: edits of stores that are right and that are wrong.
-// The input: how many steps there are, in two bytes, the steps, and bytes that they use. A step has nine numbers, low byte first: what it does, two
-// numbers, the entries of the answer and the bytes of the list that are lent, two bytes each; the bytes of the store and of the work space that are lent,
-// four bytes each (all of a buffer, where it is shorter); the start and the length of a part of the input, two bytes each. 3 is classify, 4 the exported
-// add, 5 add, 6 the exported withdraw and 7 withdraw, where the part is the catalogue and the two numbers are the axiom. 0 fills a part of the store with the
-// first number, from the byte in the store's place on, as many bytes as the work space's place says; 1 sets there the bits of the part of the input, and 2
-// clears them.
-ghost use Prim.Native.Nat.{_+_, _≤_};
+// Runs the steps of its input on one store, and writes what each call answers and leaves in the buffers: changes of stores that are right and that are wrong.
+// The input: how many steps there are, in two bytes, the steps, and bytes that they use. A step has eleven numbers, low byte first: what it does; start and
+// length of the withdrawn list, and of the added list, in the input; the entries of the answer and the bytes of the list that are lent, two bytes each; the
+// bytes of the store and of the work space that are lent, four bytes each (all of a buffer, where it is shorter); the start and the length of a part of the
+// input, two bytes each. Starts count from the input's first byte, and what lies past its last byte is left out. 3 is classify, 4 the exported change and 5
+// change, where the part is the catalogue. 0 fills a part of the store with the number in the place of the withdrawn list's start, from the byte in the
+// store's place on, as many bytes as the work space's place says; 1 sets there the bits of the part of the input, and 2 clears them.
+ghost use Prim.Native.Nat.{_+_, _≤_, _<_};
 ghost use mathlib.Core.Path.{_≡_};
 ghost use lib.ListN.{length};
 use cases::fill;
@@ -23,7 +23,7 @@ use libc::STDIN_FILENO;
 use libc::STDOUT_FILENO;
 
 // The bytes of a step.
-const STEP: usize = 22;
+const STEP: usize = 26;
 
 // Classifies a catalogue, and writes the answer.
 fn run_classify(b: &[u8], store: &mut [u8], work: &mut [u8]) {
@@ -37,7 +37,7 @@ fn run_classify(b: &[u8], store: &mut [u8], work: &mut [u8]) {
     }
 }
 
-// Writes an edit's answer.
+// Writes a change's answer.
 fn say_changed(answer: Changed) {
     match answer {
         Changed::Done(removed, returned, gained, touched) => {
@@ -50,29 +50,11 @@ fn say_changed(answer: Changed) {
     }
 }
 
-// Runs an exported edit, and answers what it returned.
-fn reply(
-    call: usize,
-    b: &[u8],
-    l: usize,
-    r: usize,
-    store: &mut [u8],
-    work: &mut [u8],
-    list: &mut [u8],
-    answer: &mut [u64],
-) -> usize {
-    match call {
-        4 => exports::girvotal_add(b, l, r, store, work, list, answer),
-        _ => exports::girvotal_withdraw(b, l, r, store, work, list, answer),
-    }
-}
-
-// Runs an exported edit with so many entries of an answer, and writes its reply.
+// Changes the axioms by the exported call with so many entries of an answer, and writes its reply.
 fn run_exported(
-    call: usize,
     b: &[u8],
-    l: usize,
-    r: usize,
+    withdrawn: &[u8],
+    added: &[u8],
     store: &mut [u8],
     work: &mut [u8],
     list: &mut [u8],
@@ -80,19 +62,28 @@ fn run_exported(
 ) {
     let mut answer = [99u64; 6];
     let n = least(entries, 6);
-    let returned = reply(call, b, l, r, store, work, list, &mut answer[..n]);
+    let returned = exports::girvotal_change(
+        b,
+        withdrawn,
+        added,
+        store,
+        work,
+        list,
+        &mut answer[..n],
+    );
     say_reply(returned, &answer);
 }
 
-// Adds an axiom, and writes the answer.
-fn run_add(b: &[u8], l: usize, r: usize, store: &mut [u8], work: &mut [u8], list: &mut [u8]) {
-    let answer = adding::add(b, l, r, store, work, list);
-    say_changed(answer);
-}
-
-// Withdraws an axiom, and writes the answer.
-fn run_withdraw(b: &[u8], l: usize, r: usize, store: &mut [u8], work: &mut [u8], list: &mut [u8]) {
-    let answer = withdrawing::withdraw(b, l, r, store, work, list);
+// Changes the axioms, and writes the answer.
+fn run_change(
+    b: &[u8],
+    withdrawn: &[u8],
+    added: &[u8],
+    store: &mut [u8],
+    work: &mut [u8],
+    list: &mut [u8],
+) {
+    let answer = amending::change(b, withdrawn, added, store, work, list);
     say_changed(answer);
 }
 
@@ -100,8 +91,8 @@ fn run_withdraw(b: &[u8], l: usize, r: usize, store: &mut [u8], work: &mut [u8],
 fn run(
     call: usize,
     b: &[u8],
-    l: usize,
-    r: usize,
+    withdrawn: &[u8],
+    added: &[u8],
     store: &mut [u8],
     work: &mut [u8],
     list: &mut [u8],
@@ -109,10 +100,46 @@ fn run(
 ) {
     match call {
         3 => run_classify(b, store, work),
-        4 | 6 => run_exported(call, b, l, r, store, work, list, entries),
-        5 => run_add(b, l, r, store, work, list),
-        _ => run_withdraw(b, l, r, store, work, list),
+        4 => run_exported(b, withdrawn, added, store, work, list, entries),
+        _ => run_change(b, withdrawn, added, store, work, list),
     }
+}
+
+// Where a part of the input starts, by the number at a byte, and where it ends, by the number there of its length.
+fn start_at(text: &[u8], at: usize) -> usize
+    requires { ⌜ at + 1 < length (now text) ⌝ }
+    ensures { λ r. ⌜ r ≤ length (now (text .entry)) ⌝ }
+{
+    least(short_at(text, at), text.len())
+}
+
+fn end_at(text: &[u8], at: usize, start: usize) -> usize
+    requires { ⌜ (at + 1 < length (now text)) × (start ≤ length (now text)) ⌝ }
+    ensures { λ r. ⌜ (start ≤ r) × (r ≤ length (now (text .entry))) ⌝ }
+{
+    least(start + short_at(text, at), text.len())
+}
+
+// Runs the call of a step with its two lists.
+fn run_lists(text: &[u8], at: usize, b: &[u8], store: &mut [u8], work: &mut [u8], list: &mut [u8])
+    requires { ⌜ at + 26 ≤ length (now text) ⌝ }
+{
+    let call = short_at(text, at);
+    let out = start_at(text, at + 2);
+    let out_end = end_at(text, at + 4, out);
+    let new = start_at(text, at + 6);
+    let new_end = end_at(text, at + 8, new);
+    let entries = short_at(text, at + 10);
+    run(
+        call,
+        b,
+        &text[out..out_end],
+        &text[new..new_end],
+        store,
+        work,
+        list,
+        entries,
+    );
 }
 
 // Writes the front of the list and the checksums of the whole buffers: what a call must not change shows there.
@@ -128,42 +155,29 @@ fn say_buffers(store: &[u8], work: &[u8], list: &[u8]) {
 
 // Runs the call of a step, with the work space and the list filled afresh.
 fn run_call(text: &[u8], at: usize, b: &[u8], store: &mut [u8], work: &mut [u8], list: &mut [u8])
-    requires { ⌜ at + 22 ≤ length (now text) ⌝ }
+    requires { ⌜ at + 26 ≤ length (now text) ⌝ }
 {
-    let call = short_at(text, at);
-    let l = short_at(text, at + 2);
-    let r = short_at(text, at + 4);
-    let entries = short_at(text, at + 6);
-    let t = least(short_at(text, at + 8), list.len());
-    let s = least(long_at(text, at + 10), store.len());
-    let w = least(long_at(text, at + 14), work.len());
+    let t = least(short_at(text, at + 12), list.len());
+    let s = least(long_at(text, at + 14), store.len());
+    let w = least(long_at(text, at + 18), work.len());
     fill(work, 90);
     fill(list, 195);
-    run(
-        call,
-        b,
-        l,
-        r,
-        &mut store[..s],
-        &mut work[..w],
-        &mut list[..t],
-        entries,
-    );
+    run_lists(text, at, b, &mut store[..s], &mut work[..w], &mut list[..t]);
     say_buffers(store, work, list);
 }
 
 // Fills a part of the store with a byte.
 fn run_fill(text: &[u8], at: usize, store: &mut [u8])
-    requires { ⌜ at + 22 ≤ length (now text) ⌝ }
+    requires { ⌜ at + 26 ≤ length (now text) ⌝ }
 {
     let byte = short_at(text, at + 2) % 256;
-    let start = least(long_at(text, at + 10), store.len());
-    let end = least(start + long_at(text, at + 14), store.len());
+    let start = least(long_at(text, at + 14), store.len());
+    let end = least(start + long_at(text, at + 18), store.len());
     fill(&mut store[start..end], byte as u8);
 }
 
 // Sets or clears the bits of some bytes in a part of the store that is as long.
-fn change(step: usize, bytes: &[u8], part: &mut [u8])
+fn put_bits(step: usize, bytes: &[u8], part: &mut [u8])
     requires { ⌜ length (now bytes) ≡ length (now part) ⌝ }
 {
     match step {
@@ -173,25 +187,25 @@ fn change(step: usize, bytes: &[u8], part: &mut [u8])
 }
 
 // Changes the bits of a part of the store, if the store has all of it.
-fn run_change(text: &[u8], at: usize, bytes: &[u8], store: &mut [u8])
-    requires { ⌜ at + 22 ≤ length (now text) ⌝ }
+fn run_bits(text: &[u8], at: usize, bytes: &[u8], store: &mut [u8])
+    requires { ⌜ at + 26 ≤ length (now text) ⌝ }
 {
-    let start = long_at(text, at + 10);
+    let start = long_at(text, at + 14);
     let end = start + bytes.len();
     if end <= store.len() {
-        change(short_at(text, at), bytes, &mut store[start..end]);
+        put_bits(short_at(text, at), bytes, &mut store[start..end]);
     }
 }
 
 // Runs the step at a byte of the input.
 fn run_step(text: &[u8], at: usize, store: &mut [u8], work: &mut [u8], list: &mut [u8])
-    requires { ⌜ at + 22 ≤ length (now text) ⌝ }
+    requires { ⌜ at + 26 ≤ length (now text) ⌝ }
 {
-    let start = least(short_at(text, at + 18), text.len());
-    let end = least(start + short_at(text, at + 20), text.len());
+    let start = start_at(text, at + 22);
+    let end = end_at(text, at + 24, start);
     match short_at(text, at) {
         0 => run_fill(text, at, store),
-        1 | 2 => run_change(text, at, &text[start..end], store),
+        1 | 2 => run_bits(text, at, &text[start..end], store),
         _ => run_call(text, at, &text[start..end], store, work, list),
     }
 }

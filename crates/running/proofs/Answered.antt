@@ -1,4 +1,4 @@
--- One call: a classify, an edit, and either with its own parts of the lists and of the answers.
+-- One call: a classify, a change, and either with its own parts of the lists and of the answers.
 use Prim.Native.Nat.{ℕ, _+_, _*_}
 use native.Mathlib.Omega.{arith}
 use mathlib.Core.Path.{_≡_, refl, sym, ap, subst, _∙_}
@@ -6,14 +6,12 @@ use mathlib.Core.List.{List, _++_}
 use lib.ListN.{getD, take, drop}
 use lib.Seq.{drop-drop}
 use borrow.Rule.Slice.PartMut.{midOf, putMid}
-use Rattle.catalogue.specs.Words.{word}
-use Rattle.derivation.specs.declared.Mode.{Mode}
 use Rattle.classification.specs.Classified.{Classifies}
 use Rattle.classification.specs.declared.Classified.{Classified}
 use Rattle.edits.specs.Edits.{Lent, lend, Edits}
 use Rattle.edits.specs.declared.Changed.{Changed}
-use Rattle.demands.specs.Sequences.{Request, classify, edit, classified, changed, Meets, classifies, edits}
-use Rattle.running.specs.Requests.{requestBy, requestAt}
+use Rattle.demands.specs.Sequences.{Request, classify, change, classified, changed, Meets, classifies, changes}
+use Rattle.running.specs.Requests.{requestBy, goneAt, newAt, requestAt}
 use Rattle.running.specs.Running.{Space, space, entriesOf, Answers, AnswersAt}
 
 -- ---- by its kind
@@ -28,12 +26,12 @@ answers-classify q b store work list a store' work' entries e call f =
       list-kept = λ z. refl;
     }
 
-pub answers-edit : (q : Request) (m : Mode) (b : List ℕ) (l r : ℕ) (u : Lent) (a : Changed) (v : Lent) (entries : List ℕ) → q ≡ edit m l r → Edits m b l r u a v
+pub answers-change : (q : Request) (b gone new : List ℕ) (u : Lent) (a : Changed) (v : Lent) (entries : List ℕ) → q ≡ change gone new → Edits b gone new u a v
     → entries ≡ entriesOf (changed a) → Answers b q u v entries
-answers-edit q m b l r u a v entries e call f =
+answers-change q b gone new u a v entries e call f =
     record {
       answer = changed a;
-      meets = subst (λ (p : Request). Meets b u v p (changed a)) (sym e) (edits call);
+      meets = subst (λ (p : Request). Meets b u v p (changed a)) (sym e) (changes call);
       entered = f;
       list-kept = λ z. let y : _≡_ {A = ℕ} 0 1 = cc in absurd (omega arith);
     }
@@ -44,10 +42,10 @@ answers-edit q m b l r u a v entries e call f =
 put-back : (a w d : ℕ) (xs ys : List ℕ) → d ≡ w → putMid a d xs ys ≡ take a xs ++ (ys ++ drop (a + w) xs)
 put-back a w d xs ys e = ap (λ (l : List ℕ). take a xs ++ (ys ++ l)) (drop-drop d a xs ∙ ap (λ (n : ℕ). drop (a + n) xs) e)
 
-module _ (b calls : List ℕ) (k l r d e : ℕ) (u : Space) (store' work' list entries : List ℕ)
-    (left : l ≡ word calls (5 * k + 1)) (right : r ≡ word calls (5 * k + 3)) (list-size : d ≡ 1024) (answer-size : e ≡ 6)
-    (x : Answers b (requestBy (getD calls (5 * k) 0) l r) (lend (u .store) (u .work) (midOf (1024 * k) d (u .lists))) (lend store' work' list) entries) where
-  request-is : requestBy (getD calls (5 * k) 0) l r ≡ requestAt calls k
+module _ (b calls : List ℕ) (k d e : ℕ) (gone new : List ℕ) (u : Space) (store' work' list entries : List ℕ)
+    (gone-is : gone ≡ goneAt calls k) (new-is : new ≡ newAt calls k) (list-size : d ≡ 1024) (answer-size : e ≡ 6)
+    (x : Answers b (requestBy (getD calls (525 * k) 0) gone new) (lend (u .store) (u .work) (midOf (1024 * k) d (u .lists))) (lend store' work' list) entries) where
+  request-is : requestBy (getD calls (525 * k) 0) gone new ≡ requestAt calls k
   unfolding requestAt
   request-is = cc
 

@@ -3,7 +3,7 @@ use Prim.Native.Nat.{ℕ, zero, suc, _+_, _*_, _/_, _≤_, _<_}
 use native.Mathlib.Omega.{arith}
 use native.Mathlib.Numerals.{add-one}
 use mathlib.Core.Path.{_≡_, refl, sym, ap, _∙_}
-use mathlib.Core.Bool.{Bool, true, false}
+use mathlib.Core.Bool.{Bool, true, false, _&&_}
 use mathlib.Core.List.{List, [], _∷_, _++_}
 use lib.ListN.{length, getD}
 use lib.Dec.{leb}
@@ -12,11 +12,10 @@ use Rattle.booleans.proofs.Booleans.{and-left, and-right}
 use Rattle.catalogue.specs.Words.{word}
 use Rattle.catalogue.specs.Outcome.{firstFault}
 use Rattle.catalogue.proofs.FirstFault.{first-fault}
-use Rattle.derivation.specs.declared.Mode.the-variants.{Delete}
-use Rattle.demands.specs.Sequences.{Request, classify, edit}
+use Rattle.demands.specs.Sequences.{Request, classify, change}
 use Rattle.running.specs.declared.Carried.{Carried}
 use Rattle.running.specs.declared.Carried.the-variants.{Done, BadCall, ShortLists, ShortAnswers}
-use Rattle.running.specs.Requests.{requestBy, requestAt, requests, callCount, lastKindBy, lastKind, callRight, ask, carried}
+use Rattle.running.specs.Requests.{requestBy, goneAt, newAt, requestAt, requests, callCount, lastKindBy, lastKind, callRight, ask, carried}
 use Rattle.running.specs.Running.{Space, Runnable}
 
 pub requests-more : (calls : List ℕ) (k : ℕ) → requests calls (k + 1) ≡ requests calls k ++ (requestAt calls k ∷ [])
@@ -31,25 +30,43 @@ requests-first calls (suc k) =
     let (rest, e) = requests-first calls k in
     (rest ++ (requestAt calls (suc k) ∷ []), ap (λ (l : List Request). l ++ (requestAt calls (suc k) ∷ [])) e)
 
--- A call that is right is whole.
-pub call-whole : (calls : List ℕ) (n k : ℕ) (u : Space) → Runnable calls n u → k < n → 5 * k + 5 ≤ length calls
-unfolding callRight
-call-whole calls n k u r l =
-    leb-true (5 * k + 5) (length calls) (and-left (leb (5 * k + 5) (length calls)) (leb (getD calls (5 * k) 0) (lastKind k)) (r .right k l))
+-- A call that is right is whole, and its lists have room.
+pub record Right (calls : List ℕ) (k : ℕ) : Type 0 where
+  pub whole : 525 * k + 525 ≤ length calls
+  pub kind-right : getD calls (525 * k) 0 ≤ lastKind k
+  pub gone-fits : word calls (525 * k + 1) ≤ 260
+  pub new-fits : word calls (525 * k + 3) ≤ 260
 
--- A call that is neither a classify nor an add is a withdraw.
-pub withdraws : (kind l r : ℕ) → ¬ (kind ≡ 0) → ¬ (kind ≡ 1) → requestBy kind l r ≡ edit Delete l r
+pub call-right : (calls : List ℕ) (k : ℕ) → callRight calls k ≡ true → Right calls k
+unfolding callRight
+call-right calls k e =
+    let kind = leb (getD calls (525 * k) 0) (lastKind k) in
+    let gone = leb (word calls (525 * k + 1)) 260 in
+    let new = leb (word calls (525 * k + 3)) 260 in
+    let rest = and-right (leb (525 * k + 525) (length calls)) ((kind && gone) && new) e in
+    let first = and-left (kind && gone) new rest in
+    record {
+      whole = leb-true (525 * k + 525) (length calls) (and-left (leb (525 * k + 525) (length calls)) ((kind && gone) && new) e);
+      kind-right = leb-true (getD calls (525 * k) 0) (lastKind k) (and-left kind gone first);
+      gone-fits = leb-true (word calls (525 * k + 1)) 260 (and-right kind gone first);
+      new-fits = leb-true (word calls (525 * k + 3)) 260 (and-right (kind && gone) new rest);
+    }
+
+pub right-at : (calls : List ℕ) (n k : ℕ) (u : Space) → Runnable calls n u → k < n → Right calls k
+right-at calls n k u r l = call-right calls k (r .right k l)
+
+-- A call that is no classify is a change.
+pub changes : (kind : ℕ) (gone new : List ℕ) → ¬ (kind ≡ 0) → requestBy kind gone new ≡ change gone new
 unfolding requestBy
-withdraws zero l r n m = absurd (n refl)
-withdraws (suc zero) l r n m = absurd (m refl)
-withdraws (suc (suc kind)) l r n m = refl
+changes zero gone new n = absurd (n refl)
+changes (suc kind) gone new n = refl
 
 -- The first call is a classify.
 pub first-classify : (calls : List ℕ) → callRight calls 0 ≡ true → requestAt calls 0 ≡ classify
-unfolding callRight requestAt requestBy lastKind lastKindBy
+unfolding requestAt requestBy lastKind lastKindBy
 first-classify calls right =
-    let none : getD calls 0 0 ≡ 0 = omega (arith, leb-true (getD calls 0 0) 0 (and-right (leb 5 (length calls)) (leb (getD calls 0 0) 0) right)) in
-    ap (λ (kind : ℕ). requestBy kind (word calls 1) (word calls 3)) none
+    let none : getD calls 0 0 ≡ 0 = omega (arith, call-right calls 0 right .kind-right) in
+    ap (λ (kind : ℕ). requestBy kind (goneAt calls 0) (newAt calls 0)) none
 
 -- ---- the answer
 

@@ -10,7 +10,7 @@ use lib.ListN.{length, take, drop, length-drop}
 use lib.Seq.{take-all, take-add, length-take-le}
 use Rattle.catalogue.specs.Outcome.{accepted}
 use Rattle.rules.specs.Axioms.{none}
-use Rattle.store.specs.Changes.{Lengths}
+use Rattle.edits.specs.Questions.{Lengths}
 use Rattle.classification.specs.Classified.{classifyChecks}
 use Rattle.edits.specs.Edits.{lend}
 use Rattle.demands.specs.Sequences.{Request, classify, Call, outcomeOf, Turn, Meets, RunsOn, Ran, nothing, first, Sequence, questions, afterCalls, inForceAfter, ClassifiedAfresh}
@@ -18,8 +18,8 @@ use Rattle.demands.proofs.Turns.{classify-turn}
 use Rattle.demands.proofs.DemandThree.{demand-three}
 use Rattle.running.specs.declared.Carried.{Carried}
 use Rattle.running.specs.declared.Carried.the-variants.{Done}
-use Rattle.running.specs.Requests.{requestAt, requests, callRight, carried}
-use Rattle.running.specs.Running.{Space, entriesOf, partOf, AnswersAt, callOf, PassedOn, Runs, Runnable, Concludes, Carries, CarriesOut}
+use Rattle.running.specs.Requests.{requestAt, requests, partOf, callRight, carried}
+use Rattle.running.specs.Running.{Space, entriesOf, AnswersAt, callOf, PassedOn, Runs, Runnable, Concludes, Carries, CarriesOut}
 use Rattle.running.proofs.Parts.{nothing-left, part-kept, part-written, flat-more}
 use Rattle.running.proofs.Listed.{requests-more, requests-first, first-classify, done-runnable}
 

@@ -5,11 +5,11 @@ use mathlib.Core.Path.{_≡_, refl, sym, ap, ap₂, subst, _∙_}
 use mathlib.Core.List.{List, [], _∷_, _++_, map, flatMap, nil≢cons, head-eq-of-cons-eq, tail-eq-of-cons-eq}
 use lib.ListN.{length, take, drop}
 use lib.Seq.{take-at, drop-at}
-use Rattle.store.specs.Changes.{Lengths}
+use Rattle.edits.specs.Questions.{Lengths}
 use Rattle.classification.proofs.Unique.{classifies-unique}
 use Rattle.edits.specs.Edits.{Lent, lend}
 use Rattle.edits.proofs.Unique.{same-buffers, edit-unique}
-use Rattle.demands.specs.Sequences.{Request, classify, edit, Call, Answer, classified, changed, Turn, Meets, classifies, edits, RunsOn, Ran, nothing, first}
+use Rattle.demands.specs.Sequences.{Request, classify, change, Call, Answer, classified, changed, Turn, Meets, classifies, changes, RunsOn, Ran, nothing, first}
 use Rattle.running.specs.declared.Carried.{Carried}
 use Rattle.running.specs.declared.Carried.the-variants.{Done, BadCall, ShortLists, ShortAnswers}
 use Rattle.running.specs.Running.{Space, space, entriesOf, PassedOn, Runs, CarriesOut}
@@ -21,8 +21,8 @@ meets-unique : (b : List ℕ) (u v v' : Lent) (q : Request) (a a' : Answer) → 
 meets-unique b u v v' classify (classified a) (classified a') (classifies c) (classifies c') k k' =
     let (same, store, work) = classifies-unique b (u .store) (u .work) a a' (v .store) (v' .store) (v .work) (v' .work) c c' in
     (ap classified same, same-buffers store work (k refl ∙ sym (k' refl)))
-meets-unique b u v v' (edit m l r) (changed a) (changed a') (edits c) (edits c') k k' =
-    let (same, left) = edit-unique m b l r u a a' v v' c c' in
+meets-unique b u v v' (change gone new) (changed a) (changed a') (changes c) (changes c') k k' =
+    let (same, left) = edit-unique b gone new u a a' v v' c c' in
     (ap changed same, left)
 
 -- Two turns of one call, with the same buffers before.

@@ -10,11 +10,11 @@ use Rattle.rules.specs.Axioms.{none}
 use Rattle.classification.specs.Classified.{classifyChecks}
 use Rattle.classification.specs.declared.Classified.the-variants as classify-answers
 use Rattle.edits.specs.Edits.{Lent, lend}
-use Rattle.edits.specs.declared.Changed.the-variants as edit-answers
+use Rattle.edits.specs.declared.Changed.the-variants as change-answers
 use Rattle.demands.specs.Sequences.{Request, classify, Call, Answer, classified, changed, Turn, Meets, Ran, Sequence, afterCalls, AllCorrect, ClassifiedAfresh}
 use Rattle.running.specs.declared.Carried.{Carried}
 use Rattle.running.specs.declared.Carried.the-variants.{Done}
-use Rattle.running.specs.Requests.{requestAt, requests, callRight, carried}
+use Rattle.running.specs.Requests.{requestAt, requests, partOf, callRight, carried}
 
 -- The buffers that are lent.
 pub record Space : Type 0 where
@@ -29,12 +29,12 @@ space store work lists answers = record { store = store; work = work; lists = li
 -- ---- one call
 
 -- The six numbers of an answer: the number of the question that was answered no and the record at fault, 0 and 0 where none was; and then the counts,
--- pairs and links for a classify, removed, returned, gained and touched for an edit, and 0 past them.
+-- pairs and links for a classify, removed, returned, gained and touched for a change, and 0 past them.
 unfoldable pub entriesOf : Answer → List ℕ
 entriesOf (classified (classify-answers.Done pairs links)) = 0 ∷ 0 ∷ pairs ∷ links ∷ 0 ∷ 0 ∷ []
 entriesOf (classified (classify-answers.Refused number at)) = number ∷ at ∷ 0 ∷ 0 ∷ 0 ∷ 0 ∷ []
-entriesOf (changed (edit-answers.Done removed returned gained touched)) = 0 ∷ 0 ∷ removed ∷ returned ∷ gained ∷ touched ∷ []
-entriesOf (changed (edit-answers.Refused number at)) = number ∷ at ∷ 0 ∷ 0 ∷ 0 ∷ 0 ∷ []
+entriesOf (changed (change-answers.Done removed returned gained touched)) = 0 ∷ 0 ∷ removed ∷ returned ∷ gained ∷ touched ∷ []
+entriesOf (changed (change-answers.Refused number at)) = number ∷ at ∷ 0 ∷ 0 ∷ 0 ∷ 0 ∷ []
 
 -- A call met its own contract, and its answer is entered. A classify leaves its list as it was.
 pub record Answers (b : List ℕ) (q : Request) (u v : Lent) (entries : List ℕ) : Type 0 where
@@ -42,10 +42,6 @@ pub record Answers (b : List ℕ) (q : Request) (u v : Lent) (entries : List ℕ
   pub meets : Meets b u v q answer
   pub entered : entries ≡ entriesOf answer
   pub list-kept : q ≡ classify → v .list ≡ u .list
-
--- The part of w numbers from the a-th on.
-abbrev pub partOf : (a w : ℕ) → List ℕ → List ℕ
-partOf a w xs = take w (drop a xs)
 
 -- Call k of the list, with its own parts.
 pub record AnswersAt (b calls : List ℕ) (k : ℕ) (u v : Space) : Type 0 where

@@ -1,9 +1,8 @@
 // One call, and its answer as six numbers.
-use adding::add;
+use amending::change;
 use classification::Classified;
 use classification::classify;
 use edits::Changed;
-use withdrawing::withdraw;
 ghost use mathlib.Core.Path.{_≡_};
 ghost use mathlib.Core.List.{[], _∷_};
 ghost use lib.ListN.{length};
@@ -36,7 +35,7 @@ fn enter_classified(answer: Classified, entries: &mut [usize])
     }
 }
 
-// Enters what an edit answered.
+// Enters what a change answered.
 fn enter_changed(answer: Changed, entries: &mut [usize])
     requires { ⌜ length (now entries) ≡ 6 ⌝ }
     ensures { λ _. ⌜ now (entries .exit) ≡ entriesOf (changed answer) ⌝ }
@@ -49,31 +48,27 @@ fn enter_changed(answer: Changed, entries: &mut [usize])
     }
 }
 
-// The call of a kind: classify, add or withdraw.
+// The call of a kind: classify or change.
 pub fn call(
     kind: u8,
     b: &[u8],
-    l: usize,
-    r: usize,
+    withdrawn: &[u8],
+    added: &[u8],
     store: &mut [u8],
     work: &mut [u8],
     list: &mut [u8],
     entries: &mut [usize],
 )
     requires { ⌜ length (now entries) ≡ 6 ⌝ }
-    ensures { λ _. ⌜ Answers (now (b .entry)) (requestBy kind l r) (lend (now (store .entry)) (now (work .entry)) (now (list .entry))) (lend (now (store .exit)) (now (work .exit)) (now (list .exit))) (now (entries .exit)) ⌝ }
+    ensures { λ _. ⌜ Answers (now (b .entry)) (requestBy kind (now (withdrawn .entry)) (now (added .entry))) (lend (now (store .entry)) (now (work .entry)) (now (list .entry))) (lend (now (store .exit)) (now (work .exit)) (now (list .exit))) (now (entries .exit)) ⌝ }
 {
     match kind {
         0 => {
             let answer = classify(b, store, work);
             enter_classified(answer, entries)
         }
-        1 => {
-            let answer = add(b, l, r, store, work, list);
-            enter_changed(answer, entries)
-        }
         _ => {
-            let answer = withdraw(b, l, r, store, work, list);
+            let answer = change(b, withdrawn, added, store, work, list);
             enter_changed(answer, entries)
         }
     }

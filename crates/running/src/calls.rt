@@ -3,6 +3,8 @@ use super::Carried;
 use super::answers::call;
 use super::requests::ENTRIES;
 use super::requests::LIST;
+use super::requests::OUT;
+use super::requests::PUT;
 use super::requests::SIZE;
 use super::requests::check_calls;
 use catalogue::word;
@@ -25,8 +27,10 @@ fn call_at(
 {
     let at = SIZE * k;
     let kind = calls[at];
-    let l = word(calls, at + 1);
-    let r = word(calls, at + 3);
+    let out = at + OUT;
+    let out_end = out + word(calls, at + 1);
+    let put = at + PUT;
+    let put_end = put + word(calls, at + 3);
     let list = LIST * k;
     let list_end = list + LIST;
     let entry = ENTRIES * k;
@@ -34,8 +38,8 @@ fn call_at(
     call(
         kind,
         b,
-        l,
-        r,
+        &calls[out..out_end],
+        &calls[put..put_end],
         store,
         work,
         &mut lists[list..list_end],

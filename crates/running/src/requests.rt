@@ -1,13 +1,21 @@
 // The bytes of a list of calls, and what is asked of them before the first call.
 use super::Carried;
+use catalogue::word;
 ghost use Prim.Native.Nat.{_*_, _<_};
 ghost use mathlib.Core.Path.{_≡_};
 ghost use lib.ListN.{length};
 ghost use Rattle.catalogue.specs.Outcome.{firstFault};
 ghost use Rattle.running.specs.Requests.{callCount, lastKind, callRight, carried};
 
-// The bytes of a call.
-pub const SIZE: usize = 5;
+// The bytes of a call: its kind, two lengths, and room for two lists.
+pub const SIZE: usize = PUT + ROOM;
+
+// Where the two lists of a call have their room, and how many bytes each.
+pub const OUT: usize = 5;
+
+pub const PUT: usize = OUT + ROOM;
+
+pub const ROOM: usize = 260;
 
 // The bytes of list that each call is lent: room for the names of 512 concepts.
 pub const LIST: usize = 1024;
@@ -22,17 +30,20 @@ fn last_kind(k: usize) -> u8
     if k == 0 {
         return 0;
     }
-    2
+    1
 }
 
-// Is call k whole and of a kind that it may be?
+// Is call k whole, of a kind that it may be, and is there room for its lists?
 fn call_right(calls: &[u8], k: usize) -> bool
-    requires { ⌜ 5 * k < length (now calls) ⌝ }
+    requires { ⌜ 525 * k < length (now calls) ⌝ }
     ensures { λ r. ⌜ r ≡ callRight (now (calls .entry)) k ⌝ }
 {
     let at = SIZE * k;
+    if !(at + SIZE <= calls.len()) {
+        return false;
+    }
     let last = last_kind(k);
-    (at + SIZE <= calls.len()) & (calls[at] <= last)
+    (calls[at] <= last) & (word(calls, at + 1) <= ROOM) & (word(calls, at + 3) <= ROOM)
 }
 
 // The first call that is not right, or their number where all are.

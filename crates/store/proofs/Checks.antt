@@ -1,11 +1,11 @@
--- What a yes to each of questions 10 to 17 says, and a no; and what a store that marks F passes.
+-- What a yes to each of questions 10 to 15 says, and a no; and what a store that marks F passes.
 use Prim.Native.Nat.{ℕ, _*_, _≤_, _<_}
 use mathlib.Core.Path.{_≡_, sym, ap, fun-ext, _∙_}
 use mathlib.Core.Bool.{Bool, true, false, _&&_, and-true}
 use mathlib.Core.List.{List, [], _∷_}
 use lib.Dec.{ltb}
 use lib.ListN.{length}
-use borrow.Author.Tests.{leb-true, leb-false, le-leb, ltb-true, le-ltb, not-true}
+use borrow.Author.Tests.{leb-true, leb-false, le-leb, ltb-true}
 use Rattle.catalogue.specs.Header.{concepts}
 use Rattle.booleans.proofs.Booleans.{both}
 use Rattle.rules.specs.Axioms.{Axioms}
@@ -13,7 +13,7 @@ use Rattle.rules.specs.Rules.{Expression}
 use Rattle.layout.specs.Parts.{used, workUsed, inForce}
 use Rattle.store.specs.Written.{axiomCount}
 use Rattle.store.specs.Fresh.{Marked}
-use Rattle.store.specs.Checks.{every, storeFits, workFits, listFits, axiomsInLimit, numbersBelow, isNew, hasRoom}
+use Rattle.store.specs.Checks.{every, storeFits, workFits, listFits, axiomsInLimit, numbersBelow}
 
 pub store-long : (b : List ℕ) (long : ℕ) → storeFits b long ≡ true → used b ≤ long
 unfolding storeFits
@@ -57,20 +57,6 @@ pub two-numbers : (b : List ℕ) (c d : ℕ) → numbersBelow b (c ∷ d ∷ [])
 two-numbers b c d e =
     let p = both (ltb c (concepts b)) (ltb d (concepts b)) .0 (sym (every-two (λ x. ltb x (concepts b)) c d) ∙ e) in
     (ltb-true c (concepts b) (p .0), ltb-true d (concepts b) (p .1))
-
--- ---- the axiom of a change
-
-pub new-axiom : (F : Axioms) (l r : ℕ) → isNew F l r ≡ true → F l r ≡ false
-unfolding isNew
-new-axiom F l r e = not-true (F l r) e
-
-pub room-left : (b : List ℕ) (F : Axioms) → hasRoom b F ≡ true → axiomCount b F < 4096
-unfolding hasRoom
-room-left b F e = ltb-true _ _ e
-
-pub no-room : (b : List ℕ) (F : Axioms) → 4096 ≤ axiomCount b F → hasRoom b F ≡ false
-unfolding hasRoom
-no-room b F l = le-ltb _ _ l
 
 -- ---- a store that marks F, whatever set it marks beside it
 

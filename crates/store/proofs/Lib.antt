@@ -11,6 +11,5 @@ pub mod AxiomCounts
 pub mod WrittenBack
 pub mod AtomicConcepts
 pub mod Checks
-pub mod Changes
 pub mod Work
 pub mod Examples

@@ -1,7 +1,7 @@
--- Questions 10 to 18, each under its own name, as a call puts them in its order (document 01, Questions). What is asked of a buffer's length takes
--- the length; 13 and 14 take their answer, so that a call can read it off its store; 16 to 18 take the axioms in force.
+-- Questions 10 to 15, each under its own name, as a call puts them in its order (document 01, Questions). What is asked of a buffer's length takes
+-- the length; 13 and 14 take their answer, so that a call can read it off its store.
 use Prim.Native.Nat.{ℕ, _*_}
-use mathlib.Core.Bool.{Bool, not}
+use mathlib.Core.Bool.{Bool}
 use mathlib.Core.List.{List}
 use lib.Dec.{ltb, leb}
 use Rattle.catalogue.specs.Header.{concepts}
@@ -32,14 +32,6 @@ axiomsInLimit b F = leb (axiomCount b F) 4096
 abbrev pub numbersBelow : List ℕ → List ℕ → Bool
 numbersBelow b names = every (λ c. ltb c (concepts b)) names
 
--- 16: axiom (l, r) not yet in force?
-unfoldable pub isNew : Axioms → (l r : ℕ) → Bool
-isNew F l r = not (F l r)
-
--- 17: fewer than 4,096 in force? (18, in force, is F itself.)
-unfoldable pub hasRoom : List ℕ → Axioms → Bool
-hasRoom b F = ltb (axiomCount b F) 4096
-
 -- Each question, and then the rest.
 unfoldable pub askStore : List ℕ → ℕ → Outcome → Outcome
 askStore b long rest = ask (storeFits b long) 10 0 rest
@@ -58,12 +50,3 @@ askLimit within rest = ask within 14 0 rest
 
 unfoldable pub askNumbers : List ℕ → List ℕ → Outcome → Outcome
 askNumbers b names rest = ask (numbersBelow b names) 15 0 rest
-
-unfoldable pub askNew : Axioms → (l r : ℕ) → Outcome → Outcome
-askNew F l r rest = ask (isNew F l r) 16 0 rest
-
-unfoldable pub askRoom : List ℕ → Axioms → Outcome → Outcome
-askRoom b F rest = ask (hasRoom b F) 17 0 rest
-
-unfoldable pub askInForce : Axioms → (l r : ℕ) → Outcome → Outcome
-askInForce F l r rest = ask (F l r) 18 0 rest

@@ -2,9 +2,9 @@
 use Prim.Native.Nat.{ℕ, _<_, zero-le}
 use native.Mathlib.Nat.{zero-add}
 use mathlib.Core.Path.{_≡_, sym, _∙_, ap, subst}
-use mathlib.Core.Logic.{_↔_, Iff·trans, Iff·symm}
+use mathlib.Core.Logic.{_↔_, inl, inr, ⊎-elim, Iff·trans, Iff·symm}
 use mathlib.Core.Bool.{Bool, true, _&&_, not}
-use mathlib.Core.List.{List, List·Memᴰ}
+use mathlib.Core.List.{List, _++_, List·Memᴰ, List·Memᴰ·append-cases, Memᴰ·append-left, Memᴰ·append-right}
 use Rattle.catalogue.specs.Header.{concepts}
 use Rattle.catalogue.specs.WellFormed.{WellFormed}
 use Rattle.derivation.specs.Decided.{Marked, Decides}
@@ -20,17 +20,30 @@ use Rattle.derivation.proofs.Counts.{removed-counts, returned-counts, gained-co
 use Rattle.rules.specs.Axioms.{Axioms, InRange}
 use Rattle.rules.specs.Occurrence.{occurs}
 use Rattle.rules.specs.Rules.{Expression, Inference, partition, EL, allowed, Permits, Closure}
-use Rattle.rules.specs.Changes.{OverDeleted, BrokenPartition, NewSet, ReturnedSet, GainedSet, GainingPartition}
+use Rattle.rules.specs.Changes.{OverDeleted, BrokenPartition, NewSet, ReturnedSet, GainedSet, GainingPartition, TouchedPartition}
 use Rattle.rules.specs.Counts.{Size}
 use Rattle.rules.specs.Presentation.{size, number, expression, presentation}
 use Rattle.rules.proofs.Presentation.{presentation-numbered, numbered-exact}
 use Rattle.rules.proofs.Changes.{over-same, broken-same, after-same, permits-covered, closure-computed, change-closure}
 use Rattle.rules.proofs.Bounds.{partition-below, closure-bounded}
 use Rattle.rules.proofs.Counts.{numbered-count}
+use Rattle.store.specs.Written.{rising}
+use Rattle.edits.specs.Edits.{Members}
+use Rattle.edits.proofs.Members.{onList, on-list-exact}
 use Rattle.worked.specs.Entries.{Rows, Changed}
 use Rattle.worked.specs.Computed.{passing, union, closureOf, removedOf, overRowsOf, returnedOf, gainedOf, brokenIn, brokenOf, gainingIn, gainingOf}
 use Rattle.worked.proofs.Lists.{passing-exact}
 use Rattle.worked.proofs.Classified.{rows-exact}
+
+-- Numbers and lists that agree with the computed ones; the touched are the broken and the gaining, rising.
+abbrev pub Computes : (b : List ℕ) (F G : Axioms) (removed returned gained : ℕ) (broken gaining touched : List ℕ) → Type 0
+Computes b F G removed returned gained broken gaining touched =
+    (removedOf b F G ≡ removed)
+    × (returnedOf b F G ≡ returned)
+    × (gainedOf b F G ≡ gained)
+    × (brokenOf b F G ≡ broken)
+    × (gainingOf b F G ≡ gaining)
+    × (touched ≡ rising (onList (broken ++ gaining)) (concepts b))
 
 -- One count for equal sets, whatever the listed inferences.
 counts-same : (b : List ℕ) (G : Axioms) (S P : Expression → Type 0) (k : ℕ) → ((e : Expression) → S e ↔ P e) → Counts (EL b) (presentation b G) S k → Size b P k
@@ -173,14 +186,33 @@ module _ (b : List ℕ) (F G : Axioms) (wf : WellFormed b) (rangeF : InRange b F
       (λ e. Iff·trans (over-computed (EL b) f laws old new covers-old h e) (over-iff e))
       (λ e o. closure-bounded b F wf rangeF e (over-held (EL b) (Permits b F) (Permits b G) (Closure b F) o)))
 
+  -- Touched is broken or gaining.
+  touched-members : (broken gaining touched : List ℕ) → ((c : ℕ) → List·Memᴰ c broken ↔ BrokenPartition b F G (Closure b F) c)
+      → ((c : ℕ) → List·Memᴰ c gaining ↔ GainingPartition b F G (Closure b F) c) → touched ≡ rising (onList (broken ++ gaining)) (concepts b)
+      → Members (concepts b) (TouchedPartition b F G (Closure b F)) touched
+  touched-members broken gaining touched p q are =
+      record {
+        test = onList (broken ++ gaining);
+        decides =
+            λ c. (
+              λ e. ⊎-elim (λ m. inl (p c .0 m)) (λ m. inr (q c .0 m)) (List·Memᴰ·append-cases broken (on-list-exact (broken ++ gaining) c .0 e)),
+              λ t. on-list-exact (broken ++ gaining) c .1 (⊎-elim (λ x. Memᴰ·append-left gaining (p c .1 x)) (λ x. Memᴰ·append-right broken (q c .1 x)) t),
+            );
+        within = λ c t. ⊎-elim (broken-below c) (gaining-below c) t;
+        are = are;
+      }
+
   -- Numbers and lists that agree with the computed ones are right.
-  pub changed : (x y z : ℕ) (broken gaining : List ℕ) → removedOf b F G ≡ x → returnedOf b F G ≡ y → gainedOf b F G ≡ z → brokenOf b F G ≡ broken → gainingOf b F G ≡ gaining
-      → Changed b F G x y z broken gaining
-  changed x y z broken gaining p q r s t = record {
-    removed-right = subst (Size b (OverDeleted b F G (Closure b F))) p removed-counted;
-    returned-right = subst (Size b (ReturnedSet b F G (Closure b F))) q returned-counted;
-    gained-right = subst (Size b (GainedSet b F G (Closure b F))) r gained-counted;
-    broken-right = λ c. subst (λ l. List·Memᴰ c l ↔ BrokenPartition b F G (Closure b F) c) s (broken-listed c);
-    gaining-right = λ c. subst (λ l. List·Memᴰ c l ↔ GainingPartition b F G (Closure b F) c) t (gaining-listed c);
-    after = change-closure b F G wf rangeF rangeG;
-  }
+  pub changed : (x y z : ℕ) (broken gaining touched : List ℕ) → Computes b F G x y z broken gaining touched → Changed b F G x y z broken gaining touched
+  changed x y z broken gaining touched (p, q, r, s, t, are) =
+      let broken-right : (c : ℕ) → List·Memᴰ c broken ↔ BrokenPartition b F G (Closure b F) c = λ c. subst (λ l. List·Memᴰ c l ↔ BrokenPartition b F G (Closure b F) c) s (broken-listed c) in
+      let gaining-right : (c : ℕ) → List·Memᴰ c gaining ↔ GainingPartition b F G (Closure b F) c = λ c. subst (λ l. List·Memᴰ c l ↔ GainingPartition b F G (Closure b F) c) t (gaining-listed c) in
+      record {
+        removed-right = subst (Size b (OverDeleted b F G (Closure b F))) p removed-counted;
+        returned-right = subst (Size b (ReturnedSet b F G (Closure b F))) q returned-counted;
+        gained-right = subst (Size b (GainedSet b F G (Closure b F))) r gained-counted;
+        broken-right = broken-right;
+        gaining-right = gaining-right;
+        touched-right = touched-members broken gaining touched broken-right gaining-right are;
+        after = change-closure b F G wf rangeF rangeG;
+      }

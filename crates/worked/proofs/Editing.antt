@@ -1,47 +1,49 @@
--- What add and withdraw answer and leave: from the counts and lists of a change of the least set, and with 4,096 axioms in force.
-use Prim.Native.Nat.{ℕ, _*_, _≤_, _<_}
+-- What a change answers and leaves: from the counts and the touched concepts of a change of the least set, and with 4,096 axioms in force.
+use Prim.Native.Nat.{ℕ, _+_, _*_, _≤_}
 use native.Mathlib.Omega.{arith}
-use mathlib.Core.Path.{_≡_, refl, sym, ap, _∙_}
-use mathlib.Core.Logic.{Iff·trans}
-use mathlib.Core.Bool.{true, false}
+use mathlib.Core.Path.{_≡_, refl, sym, ap, ap₂, fun-ext, _∙_}
+use mathlib.Core.Bool.{true, false, not, _&&_}
+use mathlib.Core.Logic.{inl, inr, ⊎-elim}
 use mathlib.Core.List.{List, [], _∷_, _++_}
-use lib.Dec.{ltb}
 use lib.ListN.{length, drop}
-use borrow.Author.Tests.{le-leb, lt-ltb}
-use Rattle.booleans.proofs.Booleans.{and-both}
+use borrow.Author.Tests.{le-leb, lt-leb}
+use Rattle.booleans.proofs.Booleans.{agree, and-left, by-bool, not-both}
+use Rattle.rows.specs.Bits.{someBelow}
 use Rattle.catalogue.specs.Words.{bytesOf}
 use Rattle.catalogue.specs.Header.{concepts}
-use Rattle.catalogue.specs.Outcome.{accepted, refused}
+use Rattle.catalogue.specs.Outcome.{Outcome, accepted, refused, ask}
 use Rattle.catalogue.specs.Checks.{checked}
-use Rattle.derivation.specs.declared.Mode.{Mode}
-use Rattle.derivation.specs.declared.Mode.the-variants.{Add, Delete}
-use Rattle.rules.specs.Axioms.{Axioms, added, withdrawn}
+use Rattle.catalogue.proofs.Outcomes.{ask-yes, ask-accepted}
+use Rattle.catalogue.proofs.Passed.{after-accepted}
+use Rattle.rules.specs.Axioms.{Axioms, InRange}
 use Rattle.rules.specs.Rules.{Closure}
-use Rattle.rules.specs.Changes.{OverDeleted, ReturnedSet, GainedSet}
-use Rattle.rules.specs.Counts.{Size}
+use Rattle.rules.specs.Changes.{OverDeleted, ReturnedSet, GainedSet, TouchedPartition}
 use Rattle.rules.proofs.Counts.{size-unique}
-use Rattle.layout.specs.Parts.{workUsed, inForce, spareClear}
-use Rattle.store.specs.Written.{axiomCount, rising}
-use Rattle.store.specs.Checks.{storeFits, workFits, listFits, axiomsInLimit, numbersBelow, hasRoom}
-use Rattle.store.specs.Changes.{Lengths}
-use Rattle.store.proofs.Checks.{few-axioms, numbers-below}
-use Rattle.store.proofs.Changes.{Passed, refused-in-force, refused-full, add-accepted, withdraw-accepted}
+use Rattle.layout.specs.Parts.{used, workUsed, inForce, spareClear}
+use Rattle.store.specs.Written.{numbered, axiomCount}
+use Rattle.store.specs.Fresh.{Fresh}
+use Rattle.store.specs.Checks.{every, storeFits, workFits, listFits, axiomsInLimit, numbersBelow, askStore, askWork, askList, askSpare, askLimit, askNumbers}
+use Rattle.store.proofs.Checks.{few-axioms, marked-axioms}
 use Rattle.store.proofs.Work.{work-stays}
 use Rattle.lists.specs.Lists.{withFront}
+use Rattle.edits.specs.Lists.{axiomsIn, among, listed, sidesBelow, sidesIn, edited}
+use Rattle.edits.specs.Questions.{Lengths, isWhole, repeats, noneTwice, allInForce, noneInForce, askWhole, askTwice, askInForce, askNew, askRoom, lengthChecks, axiomChecks, contentChecks, changeChecks}
 use Rattle.edits.specs.Answers.{removedOf, returnedOf, gainedOf}
-use Rattle.edits.specs.Edits.{edited, Listed, gaining, broken, Members, Lent, lengths, editChecks, asked, Adds}
+use Rattle.edits.specs.Edits.{Lent, lengths, asked, Edits}
+use Rattle.edits.specs.Single.{one}
 use Rattle.edits.specs.declared.Changed as edit
-use Rattle.edits.specs.declared.Changed.the-variants.{Done, Refused}
+use Rattle.edits.specs.declared.Changed.the-variants.{Done}
+use Rattle.edits.proofs.Lists.{whole-long, listed-exact, edited-exact, edited-in-range, edited-count, in-force-at}
+use Rattle.edits.proofs.Asking.{Passed, passed-rest, axioms-pass, refused-in-force, refused-full}
 use Rattle.edits.proofs.Checks.{asked-by-axioms}
-use Rattle.edits.proofs.Members.{members-unique, listed-members, onList}
-use Rattle.edits.proofs.Sets.{listed-gaining, listed-broken}
+use Rattle.edits.proofs.Members.{members-unique}
 use Rattle.edits.proofs.Unique.{refused-answer, accepted-answer, same-buffers}
 use Rattle.edits.proofs.Fresh.{edit-fresh, edit-effects}
-use Rattle.worked.specs.Calls.{EditGives, Full, FullRefuses}
+use Rattle.edits.proofs.Empty.{empty-unchanged}
+use Rattle.edits.proofs.Single.{one-new, one-in-force}
+use Rattle.worked.specs.Calls.{ChangeGives, Full, ChangeRefuses, FullRefuses, FullMoves}
 use Rattle.worked.specs.Entries.{Changed}
-
-two-below : (b : List ℕ) (l r : ℕ) → l < concepts b → r < concepts b → numbersBelow b (l ∷ r ∷ []) ≡ true
-two-below b l r hl hr = numbers-below b (concepts b) l r refl (and-both (ltb l (concepts b)) (ltb r (concepts b)) (lt-ltb l (concepts b) hl) (lt-ltb r (concepts b) hr))
+use Rattle.worked.specs.Computed.{closureOf}
 
 -- Two bytes to a number.
 length-bytesOf : (names : List ℕ) → length (bytesOf names) ≡ 2 * length names
@@ -51,94 +53,172 @@ length-bytesOf (c ∷ names) = omega (arith, length-bytesOf names)
 
 -- ---- from a change of the least set
 
--- An edit that F accepts, of a store that is fresh for F.
-module _ (m : Mode) (b : List ℕ) (l r : ℕ) (F : Axioms) (names : List ℕ) (x y z : ℕ) (catalogue : checked b ≡ accepted) (few : axiomCount b F ≤ 4096)
-    (hl : l < concepts b) (hr : r < concepts b) (passes : (lent : Lengths) → Passed b l r lent true true → editChecks m b l r lent true true F ≡ accepted)
-    (removed : Size b (OverDeleted b F (edited m F l r) (Closure b F)) x) (returned : Size b (ReturnedSet b F (edited m F l r) (Closure b F)) y)
-    (gained : Size b (GainedSet b F (edited m F l r) (Closure b F)) z) (members : Members (concepts b) (Listed b F (edited m F l r) (Closure b F) m) names) where
-  pub edit-gives : EditGives m b l r F (edited m F l r) (workUsed b) (2 * concepts b) (Done x y z (length names)) (bytesOf names)
-  unfolding storeFits workFits listFits withFront
-  edit-gives u a v p fresh work-long list-long =
-      let passed : Passed b l r (lengths u) true true =
-      record {
-        catalogue = catalogue;
-        store-fits = le-leb _ _ (fresh .long);
-        work-fits = le-leb _ _ work-long;
-        list-fits = le-leb _ _ list-long;
-        spare-clear = refl;
-        limit-kept = refl;
-        numbers = two-below b l r hl hr;
-      }
-      in
-      let G = edited m F l r in
-      let H = Closure b F in
-      let ok : asked m b l r u ≡ accepted = asked-by-axioms m b F l r u fresh few ∙ passes (lengths u) passed in
-      let e = edit-effects m b l r u a v p ok F fresh in
-      let same : p .accepts ok .names ≡ names = members-unique (concepts b) (Listed b F G H m) (p .accepts ok .names) names (e .listed) members in (
-        accepted-answer a (p .accepts ok .answers)
-            (size-unique b (OverDeleted b F G H) (removedOf a) x (e .removed-counted) removed)
-            (size-unique b (ReturnedSet b F G H) (returnedOf a) y (e .returned-counted) returned)
-            (size-unique b (GainedSet b F G H) (gainedOf a) z (e .gained-counted) gained)
-            (e .touched-counted ∙ ap length same),
-        edit-fresh m b l r u a v p ok F fresh,
-        p .accepts ok .list-is
-            ∙ ap (λ (ns : List ℕ). withFront ns (u .list)) same
-            ∙ ap (λ (k : ℕ). bytesOf names ++ drop k (u .list)) (sym (length-bytesOf names)),
-      )
+-- What a change asks of its lists and of the axioms in force F: 22, 23, and 15 to 18.
+-- It unfolds all that it computes with.
+unfoldable pub listsAsked : (b gone new : List ℕ) → Axioms → Outcome
+unfolding closureOf numbered axiomCount every axiomsInLimit ask askSpare askLimit askNumbers sidesBelow sidesIn isWhole repeats noneTwice allInForce noneInForce askWhole askTwice askInForce askNew askRoom axiomChecks contentChecks
+listsAsked b gone new F = askWhole (length gone) (length new) (contentChecks b gone new true true F)
 
--- The counts and lists of the worked changes.
-module _ (b : List ℕ) (l r : ℕ) (F : Axioms) (x y z : ℕ) (broken gaining : List ℕ) (catalogue : checked b ≡ accepted) (few : axiomCount b F ≤ 4095)
-    (hl : l < concepts b) (hr : r < concepts b) where
-  pub withdraw-gives : F l r ≡ true → Changed b F (withdrawn F l r) x y z broken gaining → broken ≡ rising (onList broken) (concepts b)
-      → EditGives Delete b l r F (withdrawn F l r) (workUsed b) (2 * concepts b) (Done x y z (length broken)) (bytesOf broken)
-  unfolding edited editChecks
-  withdraw-gives there c rises =
-      edit-gives Delete b l r F broken x y z catalogue (omega arith) hl hr (λ lent p. withdraw-accepted b l r lent true true F p there)
-      (c .removed-right) (c .returned-right) (c .gained-right)
-      (listed-members (concepts b) (Listed b F (withdrawn F l r) (Closure b F) Delete) broken rises (λ d. Iff·trans (c .broken-right d) (Listed.broken, listed-broken)))
+asked-lists : (b gone new : List ℕ) (F : Axioms) → listsAsked b gone new F ≡ askWhole (length gone) (length new) (contentChecks b gone new true true F)
+unfolding listsAsked
+asked-lists b gone new F = refl
 
-  pub add-gives : F l r ≡ false → Changed b F (added F l r) x y z broken gaining → gaining ≡ rising (onList gaining) (concepts b)
-      → EditGives Add b l r F (added F l r) (workUsed b) (2 * concepts b) (Done x y z (length gaining)) (bytesOf gaining)
-  unfolding edited editChecks hasRoom
-  add-gives out c rises =
-      edit-gives Add b l r F gaining x y z catalogue (omega arith) hl hr (λ lent p. add-accepted b l r lent true true F p out (lt-ltb (axiomCount b F) 4096 (omega arith)))
-      (c .removed-right) (c .returned-right) (c .gained-right)
-      (listed-members (concepts b) (Listed b F (added F l r) (Closure b F) Add) gaining rises (λ d. Iff·trans (c .gaining-right d) (Listed.gaining, listed-gaining)))
+-- On a catalogue that is accepted and with enough bytes lent, no more is asked.
+pub asked-of-lists : (b gone new : List ℕ) (F : Axioms) (long : Lengths) (o : Outcome) → listsAsked b gone new F ≡ o → checked b ≡ accepted → used b ≤ long .store → workUsed b ≤ long .work
+    → 2 * concepts b ≤ long .list → changeChecks b gone new long true true F ≡ o
+unfolding changeChecks lengthChecks askStore askWork askList storeFits workFits listFits
+asked-of-lists b gone new F long o asks catalogue store-long work-long list-long =
+    after-accepted b _ catalogue
+    ∙ ask-yes 10 0 _ (le-leb _ _ store-long)
+    ∙ ask-yes 11 0 _ (le-leb _ _ work-long)
+    ∙ ask-yes 12 0 _ (le-leb _ _ list-long)
+    ∙ sym (asked-lists b gone new F)
+    ∙ asks
+
+-- All of it answered yes.
+module _ (b gone new : List ℕ) (F : Axioms) (asks : listsAsked b gone new F ≡ accepted) where
+  pub changed-in-range : InRange b F → InRange b (edited F gone new)
+  unfolding ask askWhole contentChecks askTwice askSpare askLimit askNumbers
+  changed-in-range range =
+      let whole = ask-accepted (isWhole (length gone) && isWhole (length new)) 22 0 _ (sym (asked-lists b gone new F) ∙ asks) in
+      let once = ask-accepted (noneTwice (gone ++ new)) 23 0 _ (whole .1) in
+      let numbers = ask-accepted (numbersBelow b (sidesIn (gone ++ new))) 15 0 _ (once .1) in
+      edited-in-range b gone new (whole-long (length gone) (and-left (isWhole (length gone)) (isWhole (length new)) (whole .0)) .1) (numbers .0) F range
+
+  -- So a change is accepted, lent a store that is fresh for F and enough bytes.
+  module _ (catalogue : checked b ≡ accepted) (few : axiomCount b F ≤ 4096) where
+    pub change-asked : (u : Lent) → Fresh b F (u .store) → workUsed b ≤ length (u .work) → 2 * concepts b ≤ length (u .list) → asked b gone new u ≡ accepted
+    change-asked u fresh work-long list-long =
+        asked-by-axioms b F gone new u fresh few ∙ asked-of-lists b gone new F (lengths u) accepted asks catalogue (fresh .long) work-long list-long
+
+    pub change-gives : (x y z : ℕ) (broken gaining touched : List ℕ) → Changed b F (edited F gone new) x y z broken gaining touched
+        → ChangeGives b gone new F (edited F gone new) (workUsed b) (2 * concepts b) (Done x y z (length touched)) (bytesOf touched)
+    unfolding withFront
+    change-gives x y z broken gaining touched c u a v p fresh work-long list-long =
+        let G = edited F gone new in
+        let H = Closure b F in
+        let ok = change-asked u fresh work-long list-long in
+        let e = edit-effects b gone new u a v p ok F fresh in
+        let same : p .accepts ok .names ≡ touched = members-unique (concepts b) (TouchedPartition b F G H) (p .accepts ok .names) touched (e .listed) (c .touched-right) in (
+          accepted-answer a (p .accepts ok .answers)
+              (size-unique b (OverDeleted b F G H) (removedOf a) x (e .removed-counted) (c .removed-right))
+              (size-unique b (ReturnedSet b F G H) (returnedOf a) y (e .returned-counted) (c .returned-right))
+              (size-unique b (GainedSet b F G H) (gainedOf a) z (e .gained-counted) (c .gained-right))
+              (e .touched-counted ∙ ap length same),
+          edit-fresh b gone new u a v p ok F fresh,
+          p .accepts ok .list-is
+              ∙ ap (λ (ns : List ℕ). withFront ns (u .list)) same
+              ∙ ap (λ (k : ℕ). bytesOf touched ++ drop k (u .list)) (sym (length-bytesOf touched)),
+        )
+
+-- ---- empty lists, and lists put back
+
+none-listed : (c d : ℕ) → listed [] c d ≡ false
+unfolding listed among axiomsIn someBelow
+none-listed c d = refl
+
+-- Where nothing is added, what is in force was.
+was-in-force : (F : Axioms) (gone : List ℕ) (c d : ℕ) → edited F gone [] c d ≡ true → F c d ≡ true
+was-in-force F gone c d e = ⊎-elim (λ (f, n). f) (λ h. absurd (not-both h (none-listed c d))) (edited-exact F gone [] c d .0 e)
+
+-- Two empty lists leave a store that is classified afresh as it was.
+pub empty-keeps : (b : List ℕ) (F : Axioms) (u : Lent) (a : edit.Changed) (v : Lent) → Edits b [] [] u a v → Fresh b F (u .store) → v .store ≡ u .store
+empty-keeps b F u a v p fresh = go (asked b [] [] u) refl
+  where
+    go : (o : Outcome) → asked b [] [] u ≡ o → v .store ≡ u .store
+    go (refused number at) e = p .refuses number at e .store-kept
+    go accepted e = empty-unchanged b u a v p e .store-same (fresh .bytes)
+
+-- What was in force, withdrawn and then added, is in force as before.
+pub put-back : (F : Axioms) (list : List ℕ) → allInForce F list ≡ true → edited (edited F list []) [] list ≡ F
+put-back F list there =
+    fun-ext (λ c. fun-ext (λ d.
+    agree (edited (edited F list []) [] list c d) (F c d)
+    (λ e. ⊎-elim (λ (g, n). was-in-force F list c d g) (on-it c d) (edited-exact (edited F list []) [] list c d .0 e))
+    (λ f.
+    edited-exact (edited F list []) [] list c d .1
+    (by-bool (listed list c d)
+    inr
+    (λ out. inl (edited-exact F list [] c d .1 (inl (f, λ h. not-both h out)), λ h. not-both h (none-listed c d)))))))
+  where
+    on-it : (c d : ℕ) → listed list c d ≡ true → F c d ≡ true
+    on-it c d h =
+        let (j, l, x, y) = listed-exact list c d .0 h in
+        sym (ap₂ F x y) ∙ in-force-at F list there j l
 
 -- ---- with 4,096 axioms in force
 
-module _ (b : List ℕ) (l r : ℕ) (u : Lent) (a : edit.Changed) (v : Lent) (p : Adds b l r u a v) (h : Full b l r u) where
+module _ (b gone new : List ℕ) (u : Lent) (h : Full b gone new u) where
   abbrev F : Axioms
   F = inForce b (u .store)
 
-  passed : Passed b l r (lengths u) (spareClear b (u .store)) (axiomsInLimit b F)
+  passed : Passed b gone new (lengths u) (spareClear b (u .store)) (axiomsInLimit b F)
   unfolding storeFits workFits listFits
   passed =
       record {
         catalogue = h .catalogue;
-        store-fits = le-leb _ _ (h .store-long);
-        work-fits = le-leb _ _ (h .work-long);
-        list-fits = le-leb _ _ (h .list-long);
+        fit =
+            record {
+              store-fits = le-leb _ _ (h .store-long);
+              work-fits = le-leb _ _ (h .work-long);
+              list-fits = le-leb _ _ (h .list-long);
+              gone-whole = h .gone-whole;
+              new-whole = h .new-whole;
+            };
+        once = h .once;
         spare-clear = h .clear;
         limit-kept = few-axioms b F (omega (arith, h .full));
-        numbers = two-below b l r (h .left-there) (h .right-there);
+        numbers = h .numbers;
       }
 
-  refused-by : (number : ℕ) → asked Add b l r u ≡ refused number 0 → (a ≡ Refused number 0) × (v ≡ u)
-  refused-by number e =
-      let q = p .refuses number 0 e in
+  full-asked : asked b gone new u ≡ axiomChecks b gone new F
+  unfolding asked
+  full-asked = passed-rest b gone new (lengths u) (spareClear b (u .store)) (axiomsInLimit b F) F passed
+
+  -- So many are in force afterwards.
+  full-count : allInForce F gone ≡ true → noneInForce F new ≡ true → axiomCount b (edited F gone new) + axiomsIn gone ≡ 4096 + axiomsIn new
+  full-count there out =
+      edited-count b F gone new (whole-long (length gone) (h .gone-whole) .1) (h .once) (h .numbers) there out ∙ ap (λ (k : ℕ). k + axiomsIn new) (h .full)
+
+  refused-by : (number : ℕ) → axiomChecks b gone new F ≡ refused number 0 → ChangeRefuses b gone new u number
+  refused-by number e a v p =
+      let q = p .refuses number 0 (full-asked ∙ e) in
       (refused-answer a (q .answers), same-buffers (q .store-kept) (q .work-kept ∙ work-stays (workUsed b) number (u .work)) (q .list-kept))
 
-  full-in-force : F l r ≡ true → (a ≡ Refused 16 0) × (v ≡ u)
-  unfolding asked editChecks
-  full-in-force e = refused-by 16 (refused-in-force b l r (lengths u) (spareClear b (u .store)) (axiomsInLimit b F) F passed e)
+no-list-there : (F : Axioms) → allInForce F [] ≡ true
+unfolding allInForce axiomsIn someBelow
+no-list-there F = refl
 
-  full-new : F l r ≡ false → (a ≡ Refused 17 0) × (v ≡ u)
-  unfolding asked editChecks
-  full-new e = refused-by 17 (refused-full b l r (lengths u) (spareClear b (u .store)) (axiomsInLimit b F) F passed e (omega (arith, h .full)))
+no-list-long : axiomsIn [] ≡ 0
+unfolding axiomsIn
+no-list-long = refl
+
+one-long : (l r : ℕ) → axiomsIn (one l r) ≡ 1
+unfolding axiomsIn bytesOf
+one-long l r = refl
 
 pub w10-in-force : FullRefuses true 16
-w10-in-force b l r u h e a v p = full-in-force b l r u a v p h e
+w10-in-force b l r u h e =
+    let F = inForce b (u .store) in
+    refused-by b [] (one l r) u h 16 (refused-in-force b [] (one l r) F (no-list-there F) (one-new F l r ∙ ap not e))
 
 pub w10-new : FullRefuses false 17
-w10-new b l r u h e a v p = full-new b l r u a v p h e
+unfolding axiomsInLimit
+w10-new b l r u h e =
+    let F = inForce b (u .store) in
+    let out = one-new F l r ∙ ap not e in
+    let more = full-count b [] (one l r) u h (no-list-there F) out in
+    refused-by b [] (one l r) u h 17
+    (refused-full b [] (one l r) F (no-list-there F) out
+    (lt-leb (axiomCount b (edited F [] (one l r))) 4096 (omega (arith, more, no-list-long, one-long l r))))
+
+pub w10-move : FullMoves
+w10-move b l r l' r' u h there new a v p =
+    let F = inForce b (u .store) in
+    let G = edited F (one l r) (one l' r') in
+    let gone = one-in-force F l r ∙ there in
+    let out = one-new F l' r' ∙ ap not new in
+    let after : axiomCount b G ≡ 4096 = omega (arith, full-count b (one l r) (one l' r') u h gone out, one-long l r, one-long l' r') in
+    let q = p .accepts (full-asked b (one l r) (one l' r') u h ∙ axioms-pass b (one l r) (one l' r') F gone out (few-axioms b G (omega (arith, after)))) in
+    let own : inForce b (v .store) ≡ G = marked-axioms b G (v .store) (q .marked) in
+    (q .answers, own, ap (axiomCount b) own ∙ after)

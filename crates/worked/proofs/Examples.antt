@@ -1,16 +1,19 @@
 -- Examples 1, 3 and 4 of document 001.
 use mathlib.Core.Path.{_≡_, refl}
 use mathlib.Core.List.{[], _∷_}
-use Rattle.worked.specs.Catalogues.{example1, example4}
+use Rattle.derivation.specs.Finite.{some}
 use Rattle.rules.specs.Rules.{Closure}
 use Rattle.rules.specs.Changes.{OverDeleted}
 use Rattle.rules.specs.Axioms.{InRange, withdrawn}
 use Rattle.rules.proofs.Axioms.{catalogue-in-range, withdrawn-in-range}
+use Rattle.store.specs.Written.{rising}
+use Rattle.edits.proofs.Members.{onList}
+use Rattle.worked.specs.Catalogues.{example1, example4}
 use Rattle.worked.specs.Entries.{Classified, Changed, Rows}
 use Rattle.worked.specs.Computed.{pairsOf, linksOf, rowsOf, overRowsOf, removedOf, returnedOf, gainedOf, brokenOf, gainingOf}
 use Rattle.worked.specs.Table.{example1Axioms, example3Axioms, example4Axioms, example4Axioms'}
 use Rattle.worked.proofs.Classified.{classified}
-use Rattle.worked.proofs.Changed.{changed, over-rows}
+use Rattle.worked.proofs.Changed.{Computes, changed, over-rows}
 use Rattle.worked.proofs.Accepted.{example1-well-formed, example4-well-formed}
 
 pub range1 : InRange example1 example1Axioms
@@ -40,29 +43,12 @@ example1-classified-rows = refl
 pub example1-classified : Classified example1 example1Axioms 19 10 (29 ∷ 102 ∷ 4 ∷ 28 ∷ 20 ∷ 100 ∷ 68 ∷ [])
 example1-classified = classified example1 example1Axioms example1-well-formed range1 19 10 (29 ∷ 102 ∷ 4 ∷ 28 ∷ 20 ∷ 100 ∷ 68 ∷ []) example1-classified-pairs example1-classified-links example1-classified-rows
 
-example3-changed-removed : removedOf example1 example1Axioms example3Axioms ≡ 9
-unfolding removedOf example1
-example3-changed-removed = refl
+example3-computed : Computes example1 example1Axioms example3Axioms 9 0 0 (1 ∷ 5 ∷ 6 ∷ []) [] (1 ∷ 5 ∷ 6 ∷ [])
+unfolding removedOf returnedOf gainedOf brokenOf gainingOf example1 rising onList some
+example3-computed = (refl, refl, refl, refl, refl, refl)
 
-example3-changed-returned : returnedOf example1 example1Axioms example3Axioms ≡ 0
-unfolding returnedOf example1
-example3-changed-returned = refl
-
-example3-changed-gained : gainedOf example1 example1Axioms example3Axioms ≡ 0
-unfolding gainedOf example1
-example3-changed-gained = refl
-
-example3-changed-broken : brokenOf example1 example1Axioms example3Axioms ≡ 1 ∷ 5 ∷ 6 ∷ []
-unfolding brokenOf example1
-example3-changed-broken = refl
-
-example3-changed-gaining : gainingOf example1 example1Axioms example3Axioms ≡ []
-unfolding gainingOf example1
-example3-changed-gaining = refl
-
-pub example3-changed : Changed example1 example1Axioms example3Axioms 9 0 0 (1 ∷ 5 ∷ 6 ∷ []) []
-example3-changed =
-    changed example1 example1Axioms example3Axioms example1-well-formed range1 range3 9 0 0 (1 ∷ 5 ∷ 6 ∷ []) [] example3-changed-removed example3-changed-returned example3-changed-gained example3-changed-broken example3-changed-gaining
+pub example3-changed : Changed example1 example1Axioms example3Axioms 9 0 0 (1 ∷ 5 ∷ 6 ∷ []) [] (1 ∷ 5 ∷ 6 ∷ [])
+example3-changed = changed example1 example1Axioms example3Axioms example1-well-formed range1 range3 9 0 0 (1 ∷ 5 ∷ 6 ∷ []) [] (1 ∷ 5 ∷ 6 ∷ []) example3-computed
 
 example3-over-rows : overRowsOf example1 example1Axioms example3Axioms ≡ 0 ∷ 68 ∷ 0 ∷ 0 ∷ 0 ∷ 68 ∷ 68 ∷ []
 unfolding overRowsOf example1
@@ -101,29 +87,12 @@ example4-classified-rows = refl
 pub example4-classified : Classified example4 example4Axioms 11 6 (25 ∷ 6 ∷ 6 ∷ 24 ∷ 24 ∷ [])
 example4-classified = classified example4 example4Axioms example4-well-formed range4 11 6 (25 ∷ 6 ∷ 6 ∷ 24 ∷ 24 ∷ []) example4-classified-pairs example4-classified-links example4-classified-rows
 
-example4-changed-removed : removedOf example4 example4Axioms example4Axioms' ≡ 16
-unfolding removedOf example4
-example4-changed-removed = refl
+example4-computed : Computes example4 example4Axioms example4Axioms' 16 8 0 (0 ∷ 1 ∷ 2 ∷ 3 ∷ 4 ∷ []) [] (0 ∷ 1 ∷ 2 ∷ 3 ∷ 4 ∷ [])
+unfolding removedOf returnedOf gainedOf brokenOf gainingOf example4 rising onList some
+example4-computed = (refl, refl, refl, refl, refl, refl)
 
-example4-changed-returned : returnedOf example4 example4Axioms example4Axioms' ≡ 8
-unfolding returnedOf example4
-example4-changed-returned = refl
-
-example4-changed-gained : gainedOf example4 example4Axioms example4Axioms' ≡ 0
-unfolding gainedOf example4
-example4-changed-gained = refl
-
-example4-changed-broken : brokenOf example4 example4Axioms example4Axioms' ≡ 0 ∷ 1 ∷ 2 ∷ 3 ∷ 4 ∷ []
-unfolding brokenOf example4
-example4-changed-broken = refl
-
-example4-changed-gaining : gainingOf example4 example4Axioms example4Axioms' ≡ []
-unfolding gainingOf example4
-example4-changed-gaining = refl
-
-pub example4-changed : Changed example4 example4Axioms example4Axioms' 16 8 0 (0 ∷ 1 ∷ 2 ∷ 3 ∷ 4 ∷ []) []
-example4-changed =
-    changed example4 example4Axioms example4Axioms' example4-well-formed range4 range4' 16 8 0 (0 ∷ 1 ∷ 2 ∷ 3 ∷ 4 ∷ []) [] example4-changed-removed example4-changed-returned example4-changed-gained example4-changed-broken example4-changed-gaining
+pub example4-changed : Changed example4 example4Axioms example4Axioms' 16 8 0 (0 ∷ 1 ∷ 2 ∷ 3 ∷ 4 ∷ []) [] (0 ∷ 1 ∷ 2 ∷ 3 ∷ 4 ∷ [])
+example4-changed = changed example4 example4Axioms example4Axioms' example4-well-formed range4 range4' 16 8 0 (0 ∷ 1 ∷ 2 ∷ 3 ∷ 4 ∷ []) [] (0 ∷ 1 ∷ 2 ∷ 3 ∷ 4 ∷ []) example4-computed
 
 example4-over-rows : overRowsOf example4 example4Axioms example4Axioms' ≡ 24 ∷ 6 ∷ 6 ∷ 24 ∷ 24 ∷ []
 unfolding overRowsOf example4

@@ -9,6 +9,7 @@ pub mod W1
 pub mod W3
 pub mod W6
 pub mod W7
+pub mod Moves
 pub mod W8
 pub mod Limits
 pub mod W10

@@ -1,13 +1,14 @@
--- W10: a store of 512 atomic concepts with 4,096 axioms in force, to which add refuses one of them by 16 and a new one by 17.
+-- W10: a store of 512 atomic concepts with 4,096 axioms in force, to which one of them is not added (16), nor a new one (17); one out and a new one in is accepted.
 use Prim.Native.Nat.{ℕ, zero, suc, _+_, _-_, _*_, _/_, _%_, _≤_, _<_}
 use native.Mathlib.Omega.{arith}
 use mathlib.Core.Path.{_≡_, refl, sym, ap, ap₂, _∙_}
 use mathlib.Core.Bool.{true, false}
+use mathlib.Core.List.{List, [], _++_}
 use lib.Dec.{lit<, lit≤}
 use lib.ListN.{length, getD, replicate, length-append, length-replicate, getD-replicate, List·getD-append}
 use lib.Seq.{getD-append-add}
 use lib.Count.{ones}
-use Rattle.rows.specs.Bits.{byteBit, bit, countBelow, countBits, place}
+use Rattle.rows.specs.Bits.{byteBit, bit, countBelow, countBits, someBelow, place}
 use Rattle.rows.proofs.ByteBits.{byteBit-zero}
 use Rattle.rows.proofs.Counting.{count-ext, count-skip, count-byte}
 use Rattle.catalogue.specs.Words.{word, bytesOf}
@@ -15,12 +16,16 @@ use Rattle.catalogue.specs.Header.{concepts}
 use Rattle.layout.specs.Parts.{width, used, axiomRows, inForce, spareClear}
 use Rattle.layout.proofs.StoreRows.{rows-long, bit-axiom-rows, in-force-bit, no-spare}
 use Rattle.store.specs.Written.{axiomCount}
+use Rattle.store.specs.Checks.{every, numbersBelow}
 use Rattle.store.specs.Examples.{atomicHeader, atomicConcepts}
 use Rattle.store.proofs.AtomicConcepts.{atomic-count}
 use Rattle.store.proofs.Counts.{axiom-count}
+use Rattle.edits.specs.Lists.{axiomsIn, leftIn, rightIn, among, sidesBelow, sidesIn}
+use Rattle.edits.specs.Questions.{isWhole, repeats, noneTwice}
 use Rattle.worked.specs.Stores.{fullStore, fullLent}
-use Rattle.worked.specs.Calls.{Full, MeetsFull}
-use Rattle.worked.proofs.Editing.{w10-in-force, w10-new}
+use Rattle.edits.specs.Single.{one}
+use Rattle.worked.specs.Calls.{Full, MeetsFull, MeetsMove}
+use Rattle.worked.proofs.Editing.{w10-in-force, w10-new, w10-move}
 use Rattle.worked.proofs.Limits.{most-accepted, most-used, most-work}
 
 -- ---- the store's bytes and bits
@@ -106,25 +111,41 @@ not-there = first-in-row 8 (lit< tt) ∙ clear-bit 4096 (lit≤ tt) (lit< tt)
 
 -- ---- the calls
 
-full : (l : ℕ) → l < 512 → Full (atomicConcepts 512) l 0 fullLent
-full l h =
+full : (gone new : List ℕ) → isWhole (length gone) ≡ true → isWhole (length new) ≡ true → noneTwice (gone ++ new) ≡ true
+    → numbersBelow (atomicConcepts 512) (sidesIn (gone ++ new)) ≡ true → Full (atomicConcepts 512) gone new fullLent
+full gone new p q once numbers =
     record {
       catalogue = most-accepted;
       store-long = long;
       work-long = omega (arith, most-work, length-replicate {A = ℕ} 32768 0);
       list-long = omega (arith, atomic-count 512, length-replicate {A = ℕ} 1024 0);
+      gone-whole = p;
+      new-whole = q;
+      once = once;
       clear = clear;
       full = count;
-      left-there = omega (arith, atomic-count 512);
-      right-there = omega (arith, atomic-count 512);
+      numbers = numbers;
     }
 
+-- What the three changes ask of their lists.
+first-full : Full (atomicConcepts 512) [] (one 0 0) fullLent
+unfolding atomicConcepts atomicHeader bytesOf word concepts someBelow every axiomsIn leftIn rightIn among sidesBelow sidesIn isWhole repeats noneTwice
+first-full = full [] (one 0 0) refl refl refl refl
+
+new-full : Full (atomicConcepts 512) [] (one 8 0) fullLent
+unfolding first-full
+new-full = full [] (one 8 0) refl refl refl refl
+
+move-full : Full (atomicConcepts 512) (one 0 0) (one 8 0) fullLent
+unfolding first-full
+move-full = full (one 0 0) (one 8 0) refl refl refl refl
+
 pub w10-met-in-force : MeetsFull (atomicConcepts 512) 0 0 fullLent true 16
-w10-met-in-force =
-    let met = full 0 (lit< tt) in
-    record { full = met; there-is = there; refuses = w10-in-force (atomicConcepts 512) 0 0 fullLent met there }
+w10-met-in-force = record { full = first-full; there-is = there; refuses = w10-in-force (atomicConcepts 512) 0 0 fullLent first-full there }
 
 pub w10-met-new : MeetsFull (atomicConcepts 512) 8 0 fullLent false 17
-w10-met-new =
-    let met = full 8 (lit< tt) in
-    record { full = met; there-is = not-there; refuses = w10-new (atomicConcepts 512) 8 0 fullLent met not-there }
+w10-met-new = record { full = new-full; there-is = not-there; refuses = w10-new (atomicConcepts 512) 8 0 fullLent new-full not-there }
+
+pub w10-met-move : MeetsMove (atomicConcepts 512) 0 0 8 0 fullLent
+w10-met-move =
+    record { full = move-full; there = there; not-there = not-there; keeps = w10-move (atomicConcepts 512) 0 0 8 0 fullLent move-full there not-there }

@@ -7,54 +7,38 @@ use mathlib.Core.List.{List, [], _∷_}
 use lib.ListN.{length, take}
 use lib.Seq.{take-all}
 use Rattle.catalogue.specs.Examples.{w1}
-use lib.Dec.{lit<}
-use Rattle.catalogue.specs.Words.{word}
-use Rattle.catalogue.specs.Header.{concepts}
+use Rattle.catalogue.specs.Outcome.{accepted}
+use Rattle.derivation.specs.Finite.{some}
 use Rattle.rules.specs.Axioms.{InRange}
-use Rattle.rules.proofs.Axioms.{added-in-range, withdrawn-in-range}
+use Rattle.store.specs.Written.{rising}
 use Rattle.store.specs.Fresh.{Fresh}
 use Rattle.store.proofs.Fresh.{fresh-unique}
 use Rattle.store.proofs.Examples.{w1-lengths}
+use Rattle.edits.proofs.Members.{onList}
 use Rattle.worked.specs.Stores.{w3Store}
 use Rattle.worked.specs.Entries.{Classified, Changed}
 use Rattle.worked.specs.Computed.{pairsOf, linksOf, rowsOf, removedOf, returnedOf, gainedOf, brokenOf, gainingOf}
 use Rattle.worked.specs.Table.{axioms1, axioms3, axioms5}
 use Rattle.worked.proofs.Classified.{classified}
-use Rattle.worked.proofs.Changed.{changed}
+use Rattle.worked.proofs.Changed.{Computes, changed}
+use Rattle.worked.proofs.Editing.{listsAsked, changed-in-range}
 use Rattle.worked.proofs.Stores.{otherAxiom, otherExpression, otherByte, fresh-computed}
 use Rattle.catalogue.proofs.Examples.{w1-well-formed}
 use Rattle.worked.proofs.W1.{range1}
 
+pub w3-asks : listsAsked w1 (1 ∷ 0 ∷ 5 ∷ 0 ∷ []) [] axioms1 ≡ accepted
+unfolding listsAsked w1
+w3-asks = refl
+
 pub range3 : InRange w1 axioms3
-range3 = withdrawn-in-range w1 axioms1 1 5 range1
+range3 = changed-in-range w1 (1 ∷ 0 ∷ 5 ∷ 0 ∷ []) [] axioms1 w3-asks range1
 
-pub range5 : InRange w1 axioms5
-unfolding w1 word concepts
-range5 = added-in-range w1 axioms3 1 5 range3 (lit< tt) (lit< tt)
+w3-computed : Computes w1 axioms1 axioms3 10 0 0 (0 ∷ 1 ∷ 4 ∷ 5 ∷ []) [] (0 ∷ 1 ∷ 4 ∷ 5 ∷ [])
+unfolding removedOf returnedOf gainedOf brokenOf gainingOf w1 rising onList some
+w3-computed = (refl, refl, refl, refl, refl, refl)
 
-w3-change-removed : removedOf w1 axioms1 axioms3 ≡ 10
-unfolding removedOf w1
-w3-change-removed = refl
-
-w3-change-returned : returnedOf w1 axioms1 axioms3 ≡ 0
-unfolding returnedOf w1
-w3-change-returned = refl
-
-w3-change-gained : gainedOf w1 axioms1 axioms3 ≡ 0
-unfolding gainedOf w1
-w3-change-gained = refl
-
-w3-change-broken : brokenOf w1 axioms1 axioms3 ≡ 0 ∷ 1 ∷ 4 ∷ 5 ∷ []
-unfolding brokenOf w1
-w3-change-broken = refl
-
-w3-change-gaining : gainingOf w1 axioms1 axioms3 ≡ []
-unfolding gainingOf w1
-w3-change-gaining = refl
-
-pub w3-change : Changed w1 axioms1 axioms3 10 0 0 (0 ∷ 1 ∷ 4 ∷ 5 ∷ []) []
-w3-change =
-    changed w1 axioms1 axioms3 w1-well-formed range1 range3 10 0 0 (0 ∷ 1 ∷ 4 ∷ 5 ∷ []) [] w3-change-removed w3-change-returned w3-change-gained w3-change-broken w3-change-gaining
+pub w3-change : Changed w1 axioms1 axioms3 10 0 0 (0 ∷ 1 ∷ 4 ∷ 5 ∷ []) [] (0 ∷ 1 ∷ 4 ∷ 5 ∷ [])
+w3-change = changed w1 axioms1 axioms3 w1-well-formed range1 range3 10 0 0 (0 ∷ 1 ∷ 4 ∷ 5 ∷ []) [] (0 ∷ 1 ∷ 4 ∷ 5 ∷ []) w3-computed
 
 w3-left-pairs : pairsOf w1 axioms3 ≡ 8
 unfolding pairsOf w1
@@ -99,26 +83,16 @@ w3-front store fresh =
 
 -- ---- added back
 
-w5-change-removed : removedOf w1 axioms3 axioms5 ≡ 0
-unfolding removedOf w1
-w5-change-removed = refl
+pub w5-asks : listsAsked w1 [] (1 ∷ 0 ∷ 5 ∷ 0 ∷ []) axioms3 ≡ accepted
+unfolding listsAsked w1
+w5-asks = refl
 
-w5-change-returned : returnedOf w1 axioms3 axioms5 ≡ 0
-unfolding returnedOf w1
-w5-change-returned = refl
+range5 : InRange w1 axioms5
+range5 = changed-in-range w1 [] (1 ∷ 0 ∷ 5 ∷ 0 ∷ []) axioms3 w5-asks range3
 
-w5-change-gained : gainedOf w1 axioms3 axioms5 ≡ 10
-unfolding gainedOf w1
-w5-change-gained = refl
+w5-computed : Computes w1 axioms3 axioms5 0 0 10 [] (0 ∷ 1 ∷ 4 ∷ 5 ∷ []) (0 ∷ 1 ∷ 4 ∷ 5 ∷ [])
+unfolding removedOf returnedOf gainedOf brokenOf gainingOf w1 rising onList some
+w5-computed = (refl, refl, refl, refl, refl, refl)
 
-w5-change-broken : brokenOf w1 axioms3 axioms5 ≡ []
-unfolding brokenOf w1
-w5-change-broken = refl
-
-w5-change-gaining : gainingOf w1 axioms3 axioms5 ≡ 0 ∷ 1 ∷ 4 ∷ 5 ∷ []
-unfolding gainingOf w1
-w5-change-gaining = refl
-
-pub w5-change : Changed w1 axioms3 axioms5 0 0 10 [] (0 ∷ 1 ∷ 4 ∷ 5 ∷ [])
-w5-change =
-    changed w1 axioms3 axioms5 w1-well-formed range3 range5 0 0 10 [] (0 ∷ 1 ∷ 4 ∷ 5 ∷ []) w5-change-removed w5-change-returned w5-change-gained w5-change-broken w5-change-gaining
+pub w5-change : Changed w1 axioms3 axioms5 0 0 10 [] (0 ∷ 1 ∷ 4 ∷ 5 ∷ []) (0 ∷ 1 ∷ 4 ∷ 5 ∷ [])
+w5-change = changed w1 axioms3 axioms5 w1-well-formed range3 range5 0 0 10 [] (0 ∷ 1 ∷ 4 ∷ 5 ∷ []) (0 ∷ 1 ∷ 4 ∷ 5 ∷ []) w5-computed

@@ -7,27 +7,29 @@ use mathlib.Core.List.{[], _∷_}
 use lib.ListN.{length, take, drop}
 use Rattle.catalogue.specs.Words.{word}
 use Rattle.catalogue.specs.Header.{concepts, roles}
+use Rattle.catalogue.specs.Outcome.{accepted}
+use Rattle.derivation.specs.Finite.{some}
 use Rattle.layout.specs.Parts.{width, used, workUsed}
+use Rattle.store.specs.Written.{rising}
 use Rattle.store.specs.Fresh.{Fresh}
+use Rattle.edits.proofs.Members.{onList}
 use Rattle.worked.specs.Stores.{w7Store}
 use Rattle.worked.specs.Calls.{ClassifyGives}
 use Rattle.worked.specs.Catalogues.{w7}
 use Rattle.rules.specs.Axioms.{InRange}
-use Rattle.rules.proofs.Axioms.{catalogue-in-range, withdrawn-in-range}
+use Rattle.rules.proofs.Axioms.{catalogue-in-range}
 use Rattle.worked.specs.Entries.{Classified, Changed}
 use Rattle.worked.specs.Computed.{pairsOf, linksOf, rowsOf, removedOf, returnedOf, gainedOf, brokenOf, gainingOf}
 use Rattle.worked.specs.Table.{axioms7, axioms7'}
 use Rattle.worked.proofs.Classified.{classified}
-use Rattle.worked.proofs.Changed.{changed}
+use Rattle.worked.proofs.Changed.{Computes, changed}
+use Rattle.worked.proofs.Editing.{listsAsked, changed-in-range}
 use Rattle.worked.proofs.Accepted.{w7-accepted, w7-well-formed}
 use Rattle.worked.proofs.Stores.{otherAxiom, otherExpression, otherByte, fresh-computed}
 use Rattle.worked.proofs.Classifying.{classify-gives}
 
 pub range7 : InRange w7 axioms7
 range7 = catalogue-in-range w7 w7-well-formed
-
-pub range7' : InRange w7 axioms7'
-range7' = withdrawn-in-range w7 axioms7 0 1 range7
 
 w7-classified-pairs : pairsOf w7 axioms7 ≡ 7
 unfolding pairsOf w7
@@ -81,29 +83,19 @@ w7-classify =
 
 -- ---- the change
 
-w7-change-removed : removedOf w7 axioms7 axioms7' ≡ 2
-unfolding removedOf w7
-w7-change-removed = refl
+pub w7-asks : listsAsked w7 (0 ∷ 0 ∷ 1 ∷ 0 ∷ []) [] axioms7 ≡ accepted
+unfolding listsAsked w7
+w7-asks = refl
 
-w7-change-returned : returnedOf w7 axioms7 axioms7' ≡ 0
-unfolding returnedOf w7
-w7-change-returned = refl
+range7' : InRange w7 axioms7'
+range7' = changed-in-range w7 (0 ∷ 0 ∷ 1 ∷ 0 ∷ []) [] axioms7 w7-asks range7
 
-w7-change-gained : gainedOf w7 axioms7 axioms7' ≡ 0
-unfolding gainedOf w7
-w7-change-gained = refl
+w7-computed : Computes w7 axioms7 axioms7' 2 0 0 (0 ∷ []) [] (0 ∷ [])
+unfolding removedOf returnedOf gainedOf brokenOf gainingOf w7 rising onList some
+w7-computed = (refl, refl, refl, refl, refl, refl)
 
-w7-change-broken : brokenOf w7 axioms7 axioms7' ≡ 0 ∷ []
-unfolding brokenOf w7
-w7-change-broken = refl
-
-w7-change-gaining : gainingOf w7 axioms7 axioms7' ≡ []
-unfolding gainingOf w7
-w7-change-gaining = refl
-
-pub w7-change : Changed w7 axioms7 axioms7' 2 0 0 (0 ∷ []) []
-w7-change =
-    changed w7 axioms7 axioms7' w7-well-formed range7 range7' 2 0 0 (0 ∷ []) [] w7-change-removed w7-change-returned w7-change-gained w7-change-broken w7-change-gaining
+pub w7-change : Changed w7 axioms7 axioms7' 2 0 0 (0 ∷ []) [] (0 ∷ [])
+w7-change = changed w7 axioms7 axioms7' w7-well-formed range7 range7' 2 0 0 (0 ∷ []) [] (0 ∷ []) w7-computed
 
 w7-left-pairs : pairsOf w7 axioms7' ≡ 5
 unfolding pairsOf w7

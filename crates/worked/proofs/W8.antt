@@ -23,13 +23,12 @@ use Rattle.rows.proofs.Puts.{length-setIf, bytes-setIf}
 use Rattle.rows.proofs.Counting.{count-none}
 use Rattle.booleans.proofs.Booleans.{not-both, not-true-false}
 use Rattle.derivation.specs.Finite.{some}
-use Rattle.derivation.specs.declared.Mode.the-variants.{Add}
 use Rattle.structure.specs.Marks.{MarksMore}
 use Rattle.rules.specs.Axioms.{Axioms, InRange, none, catalogueAxioms}
 use Rattle.rules.specs.Occurrence.{Atomic, Occurs, atomic, hasKind}
 use Rattle.rules.specs.Rules.{Expression, fact, pair, Closure, AtomicPair}
 use Rattle.rules.specs.Counts.{Size, isPair, Pairs, Links}
-use Rattle.rules.proofs.Axioms.{catalogue-axioms-exact, added-in-range}
+use Rattle.rules.proofs.Axioms.{catalogue-axioms-exact}
 use Rattle.rules.proofs.Bounds.{closure-bounded}
 use Rattle.rules.proofs.Counts.{size-same, empty-size}
 use Rattle.rules.proofs.NoAxioms.{atomic-occur, atomic-derived, atomic-size}
@@ -53,14 +52,14 @@ use Rattle.lookups.proofs.DemandLookup.{meant, lookup-means}
 use Rattle.lookups.proofs.DemandAtomic.{atomic-means}
 use Rattle.worked.specs.Catalogues.{w8}
 use Rattle.worked.specs.Stores.{atomicBlock, atomicStore, w8Store}
-use Rattle.worked.specs.Calls.{ClassifyGives, EditGives}
+use Rattle.worked.specs.Calls.{ClassifyGives, ChangeGives}
 use Rattle.worked.specs.Entries.{Changed}
 use Rattle.worked.specs.Computed.{closureOf, removedOf, returnedOf, gainedOf, brokenOf, gainingOf}
 use Rattle.worked.specs.Table.{axioms8}
 use Rattle.worked.proofs.Accepted.{w8-accepted, w8-well-formed}
-use Rattle.worked.proofs.Changed.{changed}
+use Rattle.worked.proofs.Changed.{Computes, changed}
 use Rattle.worked.proofs.Classifying.{classify-gives}
-use Rattle.worked.proofs.Editing.{add-gives}
+use Rattle.worked.proofs.Editing.{listsAsked, changed-in-range, change-gives}
 
 never : (c d : ℕ) → ¬ (none c d ≡ true)
 never c d = false≢true
@@ -217,39 +216,23 @@ w8-w1 =
     (w8-classify w8 w8-accepted w8-no-axioms))))
 
 -- Adding (0,4).
+w8-asks : listsAsked w8 [] (0 ∷ 0 ∷ 4 ∷ 0 ∷ []) none ≡ accepted
+unfolding listsAsked w8
+w8-asks = refl
+
 range8 : InRange w8 axioms8
-range8 = added-in-range w8 none 0 4 (none-in-range w8) (omega (arith, w8-seven)) (omega (arith, w8-seven))
+range8 = changed-in-range w8 [] (0 ∷ 0 ∷ 4 ∷ 0 ∷ []) none w8-asks (none-in-range w8)
 
-w8-removed : removedOf w8 none axioms8 ≡ 0
-unfolding removedOf w8
-w8-removed = refl
+w8-computed : Computes w8 none axioms8 0 0 4 [] (0 ∷ 4 ∷ []) (0 ∷ 4 ∷ [])
+unfolding removedOf returnedOf gainedOf brokenOf gainingOf w8 rising onList some
+w8-computed = (refl, refl, refl, refl, refl, refl)
 
-w8-returned : returnedOf w8 none axioms8 ≡ 0
-unfolding returnedOf w8
-w8-returned = refl
+pub w8-change : Changed w8 none axioms8 0 0 4 [] (0 ∷ 4 ∷ []) (0 ∷ 4 ∷ [])
+w8-change = changed w8 none axioms8 w8-well-formed (none-in-range w8) range8 0 0 4 [] (0 ∷ 4 ∷ []) (0 ∷ 4 ∷ []) w8-computed
 
-w8-gained : gainedOf w8 none axioms8 ≡ 4
-unfolding gainedOf w8
-w8-gained = refl
-
-w8-broken : brokenOf w8 none axioms8 ≡ []
-unfolding brokenOf w8
-w8-broken = refl
-
-w8-gaining : gainingOf w8 none axioms8 ≡ 0 ∷ 4 ∷ []
-unfolding gainingOf w8
-w8-gaining = refl
-
-pub w8-change : Changed w8 none axioms8 0 0 4 [] (0 ∷ 4 ∷ [])
-w8-change = changed w8 none axioms8 w8-well-formed (none-in-range w8) range8 0 0 4 [] (0 ∷ 4 ∷ []) w8-removed w8-returned w8-gained w8-broken w8-gaining
-
-rises8 : (0 ∷ 4 ∷ []) ≡ rising (onList (0 ∷ 4 ∷ [])) (concepts w8)
-unfolding word concepts w8 rising onList some
-rises8 = refl
-
-pub w8-add : EditGives Add w8 0 4 none axioms8 28 14 (Done 0 0 4 2) (0 ∷ 0 ∷ 4 ∷ 0 ∷ [])
+pub w8-add : ChangeGives w8 [] (0 ∷ 0 ∷ 4 ∷ 0 ∷ []) none axioms8 28 14 (Done 0 0 4 2) (0 ∷ 0 ∷ 4 ∷ 0 ∷ [])
 unfolding bytesOf
 w8-add =
-    subst (λ (k : ℕ). EditGives Add w8 0 4 none axioms8 k 14 (Done 0 0 4 2) (0 ∷ 0 ∷ 4 ∷ 0 ∷ [])) (w8-lengths .1)
-    (subst (λ (n : ℕ). EditGives Add w8 0 4 none axioms8 (workUsed w8) (2 * n) (Done 0 0 4 2) (0 ∷ 0 ∷ 4 ∷ 0 ∷ [])) w8-seven
-    (add-gives w8 0 4 none 0 0 4 [] (0 ∷ 4 ∷ []) w8-accepted (omega (arith, no-axioms-counted w8)) (omega (arith, w8-seven)) (omega (arith, w8-seven)) refl w8-change rises8))
+    subst (λ (k : ℕ). ChangeGives w8 [] (0 ∷ 0 ∷ 4 ∷ 0 ∷ []) none axioms8 k 14 (Done 0 0 4 2) (0 ∷ 0 ∷ 4 ∷ 0 ∷ [])) (w8-lengths .1)
+    (subst (λ (n : ℕ). ChangeGives w8 [] (0 ∷ 0 ∷ 4 ∷ 0 ∷ []) none axioms8 (workUsed w8) (2 * n) (Done 0 0 4 2) (0 ∷ 0 ∷ 4 ∷ 0 ∷ [])) w8-seven
+    (change-gives w8 [] (0 ∷ 0 ∷ 4 ∷ 0 ∷ []) none w8-asks w8-accepted (omega (arith, no-axioms-counted w8)) 0 0 4 [] (0 ∷ 4 ∷ []) (0 ∷ 4 ∷ []) w8-change))

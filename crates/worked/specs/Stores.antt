@@ -48,6 +48,6 @@ w8Store =
 unfoldable pub fullStore : List ℕ
 fullStore = replicate 512 255 ++ replicate 65024 0
 
--- The buffers that add is lent with it.
+-- The buffers that a change is lent with it.
 abbrev pub fullLent : Lent
 fullLent = lend fullStore (replicate 32768 0) (replicate 1024 0)

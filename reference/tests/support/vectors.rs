@@ -8,7 +8,7 @@ mod sha256;
 
 use json::Json;
 use reference::calls::{self, Changed, Counts, Row};
-use reference::catalogue::{Axiom, Catalogue, Refusal};
+use reference::catalogue::{Catalogue, Refusal};
 use reference::store::Layout;
 use std::collections::{BTreeMap, BTreeSet};
 use std::path::{Path, PathBuf};
@@ -25,26 +25,16 @@ pub trait Calls {
         calls::classify(catalogue, store, work)
     }
 
-    fn add(
+    fn change(
         &self,
         catalogue: &[u8],
-        axiom: Axiom,
+        withdrawn: &[u8],
+        added: &[u8],
         store: &mut [u8],
         work: &mut [u8],
         touched: &mut [u8],
     ) -> Result<Changed, Refusal> {
-        calls::add(catalogue, axiom, store, work, touched)
-    }
-
-    fn withdraw(
-        &self,
-        catalogue: &[u8],
-        axiom: Axiom,
-        store: &mut [u8],
-        work: &mut [u8],
-        touched: &mut [u8],
-    ) -> Result<Changed, Refusal> {
-        calls::withdraw(catalogue, axiom, store, work, touched)
+        calls::change(catalogue, withdrawn, added, store, work, touched)
     }
 
     fn lookup(&self, catalogue: &[u8], c: usize, d: usize, store: &[u8]) -> Result<bool, Refusal> {
@@ -99,9 +89,13 @@ fn call(step: &Json) -> &str {
 
 /// Runs a step's call on the lent parts of the buffers.
 fn run(calls: &impl Calls, step: &Json, catalogue: &[u8], buffers: &mut Buffers) -> Json {
+    let lists = ["withdrawn", "added"].map(|name| match step.get("args") {
+        Some(args @ Json::Object(_)) => args.get(name).expect("a list").hex(),
+        _ => vec![],
+    });
     let arguments: Vec<usize> = match step.get("args") {
-        Some(list) => list.list().iter().map(Json::number).collect(),
-        None => vec![],
+        Some(Json::List(list)) => list.iter().map(Json::number).collect(),
+        _ => vec![],
     };
     // Each buffer is taken out, lent in part, and put back.
     let mut whole = BUFFERS.map(|name| buffers.remove(name).expect("a buffer"));
@@ -111,17 +105,13 @@ fn run(calls: &impl Calls, step: &Json, catalogue: &[u8], buffers: &mut Buffers)
     });
     let mut next = || lent.next().expect("a buffer");
     let (store, work, list, out) = (next(), next(), next(), next());
-    let changed = |c: Changed| answer("changed", &[c.removed, c.returned, c.gained, c.touched]);
     let result = match (call(step), &arguments[..]) {
         ("classify", []) => calls
             .classify(catalogue, store, work)
             .map(|counts| answer("classified", &[counts.pairs, counts.links])),
-        ("add", &[left, right]) => calls
-            .add(catalogue, (left, right), store, work, list)
-            .map(changed),
-        ("withdraw", &[left, right]) => calls
-            .withdraw(catalogue, (left, right), store, work, list)
-            .map(changed),
+        ("change", []) => calls
+            .change(catalogue, &lists[0], &lists[1], store, work, list)
+            .map(|c| answer("changed", &[c.removed, c.returned, c.gained, c.touched])),
         ("lookup", &[c, d]) => calls
             .lookup(catalogue, c, d, store)
             .map(|yes| answer(if yes { "yes" } else { "no" }, &[])),

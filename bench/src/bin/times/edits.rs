@@ -1,11 +1,10 @@
-//! Times of edits, beside classify in the same run. Every store that an edit
-//! leaves is compared with one that is classified from the axioms then in force.
+//! Times of changes, beside classify in the same run. Every store that is left is
+//! compared with one that is classified from the axioms then in force.
 
 use super::counting;
 use super::data::{self, Named};
 use bench::calls;
-use reference::calls::Changed;
-use reference::catalogue::{Axiom, Catalogue, Refusal};
+use reference::catalogue::{Axiom, Catalogue, list};
 use reference::random::Random;
 use reference::store::Layout;
 use std::time::Instant;
@@ -24,52 +23,58 @@ const FEWER: (usize, usize) = (5, 3);
 /// Of the axioms, every so many-th is counted by callgrind.
 const STRIDE: usize = 5;
 
-/// Catalogue, axiom, store, work space, list.
-type Call = fn(&[u8], Axiom, &mut [u8], &mut [u8], &mut [u8]) -> Result<Changed, Refusal>;
+/// One of the two axioms of an edit: one of the catalogue's own, or a new one.
+#[derive(Clone, Copy)]
+enum Which {
+    Own,
+    New,
+}
 
-/// An edit: what it is called, the exported function, the call, the axioms that
-/// are chosen, and the catalogue of those in force before and after each.
+use Which::{New, Own};
+
+/// A change: the axioms withdrawn, and those added.
+type Lists = [&'static [Which]; 2];
+
+/// An edit: what it is called, what the catalogue is changed by before it, and the
+/// changes that are timed together.
 struct Kind {
     name: &'static str,
-    function: &'static str,
-    call: Call,
-    chosen: fn(&Catalogue) -> Vec<Axiom>,
-    before: fn(&Catalogue, Axiom) -> Catalogue,
-    after: fn(&Catalogue, Axiom) -> Catalogue,
+    before: Lists,
+    timed: &'static [Lists],
 }
+
+const NONE: Lists = [&[], &[]];
 
 const KINDS: &[Kind] = &[
     Kind {
         name: "add, one of its own",
-        function: "girvotal_add",
-        call: calls::add,
-        chosen: own_axioms,
-        before: without,
-        after: as_it_is,
+        before: [&[Own], &[]],
+        timed: &[[&[], &[Own]]],
     },
     Kind {
         name: "add, a new one",
-        function: "girvotal_add",
-        call: calls::add,
-        chosen: new_axioms,
-        before: as_it_is,
-        after: with,
+        before: NONE,
+        timed: &[[&[], &[New]]],
     },
     Kind {
         name: "withdraw, one of its own",
-        function: "girvotal_withdraw",
-        call: calls::withdraw,
-        chosen: own_axioms,
-        before: as_it_is,
-        after: without,
+        before: NONE,
+        timed: &[[&[Own], &[]]],
     },
     Kind {
         name: "withdraw, a new one",
-        function: "girvotal_withdraw",
-        call: calls::withdraw,
-        chosen: new_axioms,
-        before: with,
-        after: as_it_is,
+        before: [&[], &[New]],
+        timed: &[[&[New], &[]]],
+    },
+    Kind {
+        name: "move, one change",
+        before: NONE,
+        timed: &[[&[Own], &[New]]],
+    },
+    Kind {
+        name: "move, withdraw then add",
+        before: NONE,
+        timed: &[[&[Own], &[]], [&[], &[New]]],
     },
 ];
 
@@ -91,21 +96,44 @@ fn new_axioms(catalogue: &Catalogue) -> Vec<Axiom> {
         .collect()
 }
 
-fn as_it_is(catalogue: &Catalogue, _: Axiom) -> Catalogue {
-    catalogue.clone()
+/// The axioms of an edit.
+#[derive(Clone, Copy, Debug)]
+struct Axioms {
+    own: Axiom,
+    new: Axiom,
 }
 
-fn without(catalogue: &Catalogue, axiom: Axiom) -> Catalogue {
-    let mut changed = catalogue.clone();
-    changed.axioms.retain(|&other| other != axiom);
-    changed
-}
+impl Axioms {
+    /// Those that are chosen for a catalogue.
+    fn chosen(catalogue: &Catalogue) -> Vec<Axioms> {
+        let both = own_axioms(catalogue).into_iter().zip(new_axioms(catalogue));
+        both.map(|(own, new)| Axioms { own, new }).collect()
+    }
 
-fn with(catalogue: &Catalogue, axiom: Axiom) -> Catalogue {
-    let mut changed = catalogue.clone();
-    changed.axioms.push(axiom);
-    changed.axioms.sort();
-    changed
+    fn named(self, which: &[Which]) -> Vec<Axiom> {
+        let one = |which: &Which| match which {
+            Own => self.own,
+            New => self.new,
+        };
+        which.iter().map(one).collect()
+    }
+
+    /// A catalogue with what a change leaves of its axioms.
+    fn changed(self, mut catalogue: Catalogue, lists: &Lists) -> Catalogue {
+        let [out, into] = lists.map(|list| self.named(list));
+        catalogue.axioms.retain(|axiom| !out.contains(axiom));
+        catalogue.axioms.extend(into);
+        catalogue.axioms.sort();
+        catalogue
+    }
+
+    /// The catalogues before an edit and after it.
+    fn around(self, catalogue: &Catalogue, kind: &Kind) -> [Catalogue; 2] {
+        let before = self.changed(catalogue.clone(), &kind.before);
+        let changed = |catalogue, lists| self.changed(catalogue, lists);
+        let after = kind.timed.iter().fold(before.clone(), changed);
+        [before, after]
+    }
 }
 
 /// Lent buffers.
@@ -132,12 +160,20 @@ impl Buffers {
         1000.0 * start.elapsed().as_secs_f64()
     }
 
-    /// Edits; the milliseconds that it took.
-    fn edit(&mut self, call: Call, catalogue: &[u8], axiom: Axiom) -> f64 {
-        let Buffers { store, work, list } = self;
-        let start = Instant::now();
-        call(catalogue, axiom, store, work, list).expect("accepted");
-        1000.0 * start.elapsed().as_secs_f64()
+    /// Makes the changes of an edit; the milliseconds that they took.
+    fn edit(&mut self, kind: &Kind, catalogue: &[u8], axioms: Axioms) -> f64 {
+        let Buffers {
+            store,
+            work,
+            list: touched,
+        } = self;
+        let timed = kind.timed.iter().map(|lists| {
+            let [out, into] = lists.map(|which| list(&axioms.named(which)));
+            let start = Instant::now();
+            calls::change(catalogue, &out, &into, store, work, touched).expect("accepted");
+            1000.0 * start.elapsed().as_secs_f64()
+        });
+        timed.sum()
     }
 }
 
@@ -156,19 +192,19 @@ struct Cost {
 
 /// Times a kind of edit on a catalogue, by so many axioms. Of an edit the least of
 /// some runs counts, and so of classify beside it.
-fn time_kind(name: &str, catalogue: &Catalogue, kind: &Kind, (axioms, runs): (usize, usize)) {
+fn time_kind(name: &str, catalogue: &Catalogue, kind: &Kind, (count, runs): (usize, usize)) {
     let bytes = catalogue.bytes();
     let mut buffers = Buffers::new(catalogue);
-    let chosen = (kind.chosen)(catalogue);
-    let timed = chosen.iter().step_by(AXIOMS / axioms).map(|&axiom| {
-        buffers.classify(&(kind.after)(catalogue, axiom).bytes());
+    let chosen = Axioms::chosen(catalogue);
+    let timed = chosen.iter().step_by(AXIOMS / count).map(|&axioms| {
+        let [before, after] = axioms.around(catalogue, kind).map(|known| known.bytes());
+        buffers.classify(&after);
         let expected = buffers.store.clone();
-        let before = (kind.before)(catalogue, axiom).bytes();
         let (mut classify, mut edit) = (f64::MAX, f64::MAX);
         for _ in 0..runs {
             classify = classify.min(buffers.classify(&before));
-            edit = edit.min(buffers.edit(kind.call, &bytes, axiom));
-            assert!(buffers.store == expected, "{name}: {axiom:?}");
+            edit = edit.min(buffers.edit(kind, &bytes, axioms));
+            assert!(buffers.store == expected, "{name}: {axioms:?}");
         }
         Cost { classify, edit }
     });
@@ -224,10 +260,11 @@ pub fn times() {
 pub fn once(kind: &str, name: &str, which: &str) {
     let number = |word: &str| word.parse::<usize>().expect("a number");
     let (kind, catalogue) = (&KINDS[number(kind)], catalogue(name));
-    let axiom = (kind.chosen)(&catalogue)[number(which)];
+    let axioms = Axioms::chosen(&catalogue)[number(which)];
+    let [before, _] = axioms.around(&catalogue, kind);
     let mut buffers = Buffers::new(&catalogue);
-    buffers.classify(&(kind.before)(&catalogue, axiom).bytes());
-    buffers.edit(kind.call, &catalogue.bytes(), axiom);
+    buffers.classify(&before.bytes());
+    buffers.edit(kind, &catalogue.bytes(), axioms);
 }
 
 /// Instructions of edits, and of classify before the first of them.
@@ -242,7 +279,7 @@ pub fn instructions() {
             let classify = count("girvotal_classify", 0);
             let counted = (0..AXIOMS).step_by(STRIDE).map(|i| Cost {
                 classify,
-                edit: count(kind.function, i),
+                edit: count("girvotal_change", i),
             });
             print_row(name, kind, &counted.collect::<Vec<Cost>>());
         }

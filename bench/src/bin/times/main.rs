@@ -3,7 +3,7 @@
 //!
 //!     times                     classify of the files in ../data, edits, reading, rows
 //!     times classify [FILE..]   classify of these files, or of those in ../data
-//!     times edits               add and withdraw, beside classify
+//!     times edits               changes by one list and by two, beside classify
 //!     times reading             lookup, listing, row and write: nanoseconds
 //!     times rows                rows of 64 bytes by words and byte by byte: nanoseconds
 //!     times instructions        all of these: instructions, counted by callgrind

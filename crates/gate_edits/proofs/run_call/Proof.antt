@@ -5,32 +5,11 @@ use borrow.Author.Needs.{needs}
 use Rattle.gate_edits.proofs.run_call.Statement.{statement}
 use Rattle.gate_edits.proofs.run_call.Tie as tie
 
-short-at-requires : tie.Need-short-at-requires
-short-at-requires c κs = search needs
-
 add-short-at : tie.Need-add-short-at
 add-short-at c = search needs
 
-short-at-requires-2 : tie.Need-short-at-requires-2
-short-at-requires-2 c κs = search needs
-
-add-short-at-2 : tie.Need-add-short-at-2
-add-short-at-2 c = search needs
-
-short-at-requires-3 : tie.Need-short-at-requires-3
-short-at-requires-3 c κs = search needs
-
-add-short-at-3 : tie.Need-add-short-at-3
-add-short-at-3 c = search needs
-
-short-at-requires-4 : tie.Need-short-at-requires-4
-short-at-requires-4 c κs = search needs
-
-add-short-at-4 : tie.Need-add-short-at-4
-add-short-at-4 c = search needs
-
-short-at-requires-5 : tie.Need-short-at-requires-5
-short-at-requires-5 c κs = search needs
+short-at-requires : tie.Need-short-at-requires
+short-at-requires c κs = search needs
 
 least-requires : tie.Need-least-requires
 least-requires c κs = search needs
@@ -59,26 +38,26 @@ fill-requires c κs = search needs
 fill-requires-2 : tie.Need-fill-requires-2
 fill-requires-2 c κs = search needs
 
-slice-relend-prefix-run : tie.Need-slice-relend-prefix-run
-slice-relend-prefix-run c = search needs
+slice-relend-prefix-run-lists : tie.Need-slice-relend-prefix-run-lists
+slice-relend-prefix-run-lists c = search needs
 
-slice-aggregate-run : tie.Need-slice-aggregate-run
-slice-aggregate-run c = sym (length-take-le _ _ (search needs))
+slice-aggregate-run-lists : tie.Need-slice-aggregate-run-lists
+slice-aggregate-run-lists c = sym (length-take-le _ _ (search needs))
 
-slice-relend-prefix-run-2 : tie.Need-slice-relend-prefix-run-2
-slice-relend-prefix-run-2 c = search needs
+slice-relend-prefix-run-lists-2 : tie.Need-slice-relend-prefix-run-lists-2
+slice-relend-prefix-run-lists-2 c = search needs
 
-slice-aggregate-run-2 : tie.Need-slice-aggregate-run-2
-slice-aggregate-run-2 c = sym (length-take-le _ _ (search needs))
+slice-aggregate-run-lists-2 : tie.Need-slice-aggregate-run-lists-2
+slice-aggregate-run-lists-2 c = sym (length-take-le _ _ (search needs))
 
-slice-relend-prefix-run-3 : tie.Need-slice-relend-prefix-run-3
-slice-relend-prefix-run-3 c = search needs
+slice-relend-prefix-run-lists-3 : tie.Need-slice-relend-prefix-run-lists-3
+slice-relend-prefix-run-lists-3 c = search needs
 
-slice-aggregate-run-3 : tie.Need-slice-aggregate-run-3
-slice-aggregate-run-3 c = sym (length-take-le _ _ (search needs))
+slice-aggregate-run-lists-3 : tie.Need-slice-aggregate-run-lists-3
+slice-aggregate-run-lists-3 c = sym (length-take-le _ _ (search needs))
 
-run-requires : tie.Need-run-requires
-run-requires c κs = search needs
+run-lists-requires : tie.Need-run-lists-requires
+run-lists-requires c κs = search needs
 
 say-buffers-requires : tie.Need-say-buffers-requires
 say-buffers-requires c κs = search needs
@@ -99,15 +78,8 @@ pub run-call-spec : {M : Type 1} → statement M
 run-call-spec =
     tie.close
     (tie.spec
-    short-at-requires
     add-short-at
-    short-at-requires-2
-    add-short-at-2
-    short-at-requires-3
-    add-short-at-3
-    short-at-requires-4
-    add-short-at-4
-    short-at-requires-5
+    short-at-requires
     least-requires
     add-long-at
     long-at-requires
@@ -117,13 +89,13 @@ run-call-spec =
     least-requires-3
     fill-requires
     fill-requires-2
-    slice-relend-prefix-run
-    slice-aggregate-run
-    slice-relend-prefix-run-2
-    slice-aggregate-run-2
-    slice-relend-prefix-run-3
-    slice-aggregate-run-3
-    run-requires
+    slice-relend-prefix-run-lists
+    slice-aggregate-run-lists
+    slice-relend-prefix-run-lists-2
+    slice-aggregate-run-lists-2
+    slice-relend-prefix-run-lists-3
+    slice-aggregate-run-lists-3
+    run-lists-requires
     say-buffers-requires
     same-length
     same-length-2

@@ -13,17 +13,17 @@ least-requires c κs = search needs
 array-borrow-prefix-answer : tie.Need-array-borrow-prefix-answer
 array-borrow-prefix-answer c = search needs
 
-slice-aggregate-reply : tie.Need-slice-aggregate-reply
-slice-aggregate-reply c = sym (length-take-le _ _ (search needs))
+slice-aggregate-girvotal-change : tie.Need-slice-aggregate-girvotal-change
+slice-aggregate-girvotal-change c = sym (length-take-le _ _ (search needs))
 
-reply-requires : tie.Need-reply-requires
-reply-requires c κs = search needs
+girvotal-change-requires : tie.Need-girvotal-change-requires
+girvotal-change-requires c κs = search needs
 
 slice-aggregate-say-reply : tie.Need-slice-aggregate-say-reply
 slice-aggregate-say-reply c =
-    let called = c .before .before .before .before .before .before .before .before .reply in
+    let called = c .before .before .before .before .before .before .before .before .girvotal-change in
     let lent = c .before .before .before .before .before .before .before .before .before .before .before .before .before .least .result in
-    sym (length-front {A = ℕ} (replicate 6 99) (called .last .1 .1 .1 .1 .1 .1 .1 .0) lent (called .kept .1 .1 .1 .1 .1 .1 .1 .0))
+    sym (length-front {A = ℕ} (replicate 6 99) (called .last .1 .1 .1 .1 .1 .1 .0) lent (called .kept .1 .1 .1 .1 .1 .1 .0))
 
 say-reply-requires : tie.Need-say-reply-requires
 say-reply-requires c κs = search needs
@@ -46,8 +46,8 @@ run-exported-spec =
     (tie.spec
     least-requires
     array-borrow-prefix-answer
-    slice-aggregate-reply
-    reply-requires
+    slice-aggregate-girvotal-change
+    girvotal-change-requires
     slice-aggregate-say-reply
     say-reply-requires
     same-length

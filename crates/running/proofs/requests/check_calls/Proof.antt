@@ -23,21 +23,21 @@ unfolding callCount
 returns c =
     let a = c .before .before .before .args in
     let bad = c .before .first-bad in
-    answers-bad (a .calls .now) (a .lists) (a .answers) ((length (a .calls .now) + 4) / 5) (bad .result) refl (bad .ensures) (c .if1 .taken)
+    answers-bad (a .calls .now) (a .lists) (a .answers) ((length (a .calls .now) + 524) / 525) (bad .result) refl (bad .ensures) (c .if1 .taken)
 
 returns-2 : tie.Need-returns-2
 unfolding callCount
 returns-2 c =
     let a = c .before .before .before .before .args in
     let bad = c .before .before .first-bad in
-    answers-lists (a .calls .now) (a .lists) (a .answers) ((length (a .calls .now) + 4) / 5) (bad .result) refl (bad .ensures) (c .before .if1 .left) (c .if2 .taken)
+    answers-lists (a .calls .now) (a .lists) (a .answers) ((length (a .calls .now) + 524) / 525) (bad .result) refl (bad .ensures) (c .before .if1 .left) (c .if2 .taken)
 
 returns-3 : tie.Need-returns-3
 unfolding callCount
 returns-3 c =
     let a = c .before .before .before .before .before .args in
     let bad = c .before .before .before .first-bad in
-    answers-answers (a .calls .now) (a .lists) (a .answers) ((length (a .calls .now) + 4) / 5) (bad .result) refl (bad .ensures)
+    answers-answers (a .calls .now) (a .lists) (a .answers) ((length (a .calls .now) + 524) / 525) (bad .result) refl (bad .ensures)
     (c .before .before .if1 .left) (c .before .if2 .left) (c .if3 .taken)
 
 returns-4 : tie.Need-returns-4
@@ -45,7 +45,7 @@ unfolding callCount
 returns-4 c =
     let a = c .before .before .before .before .before .args in
     let bad = c .before .before .before .first-bad in
-    answers-done (a .calls .now) (a .lists) (a .answers) ((length (a .calls .now) + 4) / 5) (bad .result) refl (bad .ensures)
+    answers-done (a .calls .now) (a .lists) (a .answers) ((length (a .calls .now) + 524) / 525) (bad .result) refl (bad .ensures)
     (c .before .before .if1 .left) (c .before .if2 .left) (c .if3 .left)
 
 pub check-calls-spec : {M : Type 1} → statement M

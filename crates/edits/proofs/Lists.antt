@@ -1,0 +1,257 @@
+-- Laws of lists of axioms: who is on one, two of them together, and the axioms in force after a change: their range, and how many there are.
+use Prim.Native.Nat.{ℕ, zero, suc, _+_, _*_, _/_, _%_, _≤_, _<_}
+use native.Mathlib.Omega.{arith}
+use mathlib.Core.Path.{_≡_, refl, sym, ap, ap₂, subst, fun-ext, _∙_}
+use mathlib.Core.Logic.{_↔_, _⊎_, inl, inr, ⊎-elim}
+use mathlib.Core.Bool.{Bool, true, false, not, _&&_, _||_, and-assoc}
+use mathlib.Core.List.{List, [], _∷_, _++_}
+use lib.Dec.{eqb, ltb, leb}
+use lib.ListN.{length, getD, length-append, List·getD-append}
+use lib.Seq.{getD-append-add}
+use borrow.Author.Tests.{eq-eqb, eqb-true, leb-true, ltb-true, not-true, not-false}
+use Rattle.booleans.proofs.Booleans.{both, either, negated, agree, not-both, not-true-false, and-left, and-right, and-both}
+use Rattle.rows.specs.Bits.{someBelow}
+use Rattle.rows.proofs.Counting.{some-at, some-which, none-below}
+use Rattle.catalogue.specs.Words.{word}
+use Rattle.catalogue.specs.Header.{concepts}
+use Rattle.derivation.specs.Finite.{each}
+use Rattle.rules.specs.Axioms.{Axioms, InRange, added, withdrawn}
+use Rattle.store.specs.Written.{axiomCount}
+use Rattle.store.specs.Checks.{numbersBelow}
+use Rattle.store.proofs.Checks.{every-two}
+use Rattle.store.proofs.AxiomCounts.{added-count, withdrawn-count}
+use Rattle.edits.specs.Lists.{axiomsIn, leftIn, rightIn, among, listed, sidesBelow, sidesIn, edited}
+use Rattle.edits.specs.Questions.{isWhole, repeats, noneTwice, allInForce, noneInForce}
+
+-- ---- who is on a list
+
+pub among-exact : (list : List ℕ) (k c d : ℕ) → (among list k c d ≡ true) ↔ ((j : ℕ) × (j < k) × (leftIn list j ≡ c) × (rightIn list j ≡ d))
+unfolding among
+among-exact list k c d = (
+  λ e.
+      let (j, l, t) = some-which (λ j. eqb (leftIn list j) c && eqb (rightIn list j) d) k e in
+      (j, l, eqb-true (leftIn list j) c (and-left (eqb (leftIn list j) c) (eqb (rightIn list j) d) t), eqb-true (rightIn list j) d (and-right (eqb (leftIn list j) c) (eqb (rightIn list j) d) t)),
+  λ (j, l, x, y). some-at (λ j. eqb (leftIn list j) c && eqb (rightIn list j) d) k j l (and-both (eqb (leftIn list j) c) (eqb (rightIn list j) d) (eq-eqb (leftIn list j) c x) (eq-eqb (rightIn list j) d y)),
+)
+
+pub listed-exact : (list : List ℕ) (c d : ℕ) → (listed list c d ≡ true) ↔ ((j : ℕ) × (j < axiomsIn list) × (leftIn list j ≡ c) × (rightIn list j ≡ d))
+unfolding listed
+listed-exact list c d = among-exact list (axiomsIn list) c d
+
+-- In force after a change: in force before and not withdrawn, or added.
+pub edited-exact : (F : Axioms) (gone new : List ℕ) (c d : ℕ) → (edited F gone new c d ≡ true) ↔ (((F c d ≡ true) × ¬ (listed gone c d ≡ true)) ⊎ (listed new c d ≡ true))
+unfolding edited
+edited-exact F gone new c d = (
+  λ e.
+      ⊎-elim (λ h. inl (and-left (F c d) (not (listed gone c d)) h, negated (listed gone c d) .0 (and-right (F c d) (not (listed gone c d)) h))) inr
+      (either (F c d && not (listed gone c d)) (listed new c d) .0 e),
+  λ h.
+      either (F c d && not (listed gone c d)) (listed new c d) .1
+      (⊎-elim (λ (f, n). inl (and-both (F c d) (not (listed gone c d)) f (negated (listed gone c d) .1 n))) inr h),
+)
+
+-- ---- whole lists
+
+pub whole-long : (long : ℕ) → isWhole long ≡ true → (long ≤ 256) × (long % 4 ≡ 0)
+unfolding isWhole
+whole-long long e = (leb-true long 256 (and-left (leb long 256) (eqb (long % 4) 0) e), eqb-true (long % 4) 0 (and-right (leb long 256) (eqb (long % 4) 0) e))
+
+-- Two lists together have the axioms of the one, and then those of the other.
+module _ (gone new : List ℕ) (whole : length gone % 4 ≡ 0) where
+  pub axioms-together : axiomsIn (gone ++ new) ≡ axiomsIn gone + axiomsIn new
+  unfolding axiomsIn
+  axioms-together = omega (arith, length-append gone new)
+
+  word-first : (i : ℕ) → i + 1 < length gone → word (gone ++ new) i ≡ word gone i
+  unfolding word
+  word-first i l =
+      ap₂ (λ (x y : ℕ). x + 256 * y) (List·getD-append gone new 0 i (omega arith)) (List·getD-append gone new 0 (i + 1) l)
+
+  word-second : (i : ℕ) → word (gone ++ new) (length gone + i) ≡ word new i
+  unfolding word
+  word-second i =
+      ap₂ (λ (x y : ℕ). x + 256 * y) (getD-append-add gone new i 0)
+      (ap (λ (k : ℕ). getD (gone ++ new) k 0) (let z : length gone + i + 1 ≡ length gone + (i + 1) = omega arith in z) ∙ getD-append-add gone new (i + 1) 0)
+
+  pub left-first : (k : ℕ) → k < axiomsIn gone → leftIn (gone ++ new) k ≡ leftIn gone k
+  unfolding axiomsIn leftIn
+  left-first k l = word-first (4 * k) (omega arith)
+
+  pub right-first : (k : ℕ) → k < axiomsIn gone → rightIn (gone ++ new) k ≡ rightIn gone k
+  unfolding axiomsIn rightIn
+  right-first k l = word-first (4 * k + 2) (omega arith)
+
+  pub left-second : (k : ℕ) → leftIn (gone ++ new) (axiomsIn gone + k) ≡ leftIn new k
+  unfolding axiomsIn leftIn
+  left-second k = ap (word (gone ++ new)) (let z : 4 * (length gone / 4 + k) ≡ length gone + 4 * k = omega arith in z) ∙ word-second (4 * k)
+
+  pub right-second : (k : ℕ) → rightIn (gone ++ new) (axiomsIn gone + k) ≡ rightIn new k
+  unfolding axiomsIn rightIn
+  right-second k = ap (word (gone ++ new)) (let z : 4 * (length gone / 4 + k) + 2 ≡ length gone + (4 * k + 2) = omega arith in z) ∙ word-second (4 * k + 2)
+
+  -- No axiom twice in both together, and so in neither of them.
+  pub once-first : noneTwice (gone ++ new) ≡ true → (k : ℕ) → k < axiomsIn gone → among gone k (leftIn gone k) (rightIn gone k) ≡ false
+  unfolding noneTwice repeats
+  once-first e k l =
+      not-true-false _
+      (λ t.
+      let (j, lj, x, y) = among-exact gone k (leftIn gone k) (rightIn gone k) .0 t in
+      not-both
+      (among-exact (gone ++ new) k (leftIn (gone ++ new) k) (rightIn (gone ++ new) k) .1
+      (j, lj, left-first j (omega arith) ∙ x ∙ sym (left-first k l), right-first j (omega arith) ∙ y ∙ sym (right-first k l)))
+      (none-below (repeats (gone ++ new)) (axiomsIn (gone ++ new)) k (not-true _ e) (omega (arith, axioms-together))))
+
+  pub once-second : noneTwice (gone ++ new) ≡ true → (k : ℕ) → k < axiomsIn new → among new k (leftIn new k) (rightIn new k) ≡ false
+  unfolding noneTwice repeats
+  once-second e k l =
+      let p = axiomsIn gone in
+      not-true-false _
+      (λ t.
+      let (j, lj, x, y) = among-exact new k (leftIn new k) (rightIn new k) .0 t in
+      not-both
+      (among-exact (gone ++ new) (p + k) (leftIn (gone ++ new) (p + k)) (rightIn (gone ++ new) (p + k)) .1
+      (p + j, omega arith, left-second j ∙ x ∙ sym (left-second k), right-second j ∙ y ∙ sym (right-second k)))
+      (none-below (repeats (gone ++ new)) (axiomsIn (gone ++ new)) (p + k) (not-true _ e) (omega (arith, axioms-together))))
+
+-- ---- numbers below n
+
+each-append : (test : ℕ → Bool) (xs ys : List ℕ) → each test (xs ++ ys) ≡ (each test xs && each test ys)
+unfolding each
+each-append test [] ys = refl
+each-append test (x ∷ xs) ys = ap (λ (t : Bool). test x && t) (each-append test xs ys) ∙ sym (and-assoc (test x) (each test xs) (each test ys))
+
+pushed : (s t : Bool) → (not s && t) ≡ not (not t || s)
+pushed true true = refl
+pushed true false = refl
+pushed false true = refl
+pushed false false = refl
+
+-- All sides of the first k axioms pass a test, or one of these axioms has a side that does not.
+pub sides-some : (test : ℕ → Bool) (list : List ℕ) (k : ℕ) → each test (sidesBelow list k) ≡ not (someBelow (λ j. not (test (leftIn list j) && test (rightIn list j))) k)
+unfolding sidesBelow someBelow each
+sides-some test list zero = refl
+sides-some test list (suc k) =
+    each-append test (sidesBelow list k) (leftIn list k ∷ rightIn list k ∷ [])
+    ∙ ap₂ _&&_ (sides-some test list k) (every-two test (leftIn list k) (rightIn list k))
+    ∙ pushed _ (test (leftIn list k) && test (rightIn list k))
+
+pub sides-below : (b list : List ℕ) → numbersBelow b (sidesIn list) ≡ true → (k : ℕ) → k < axiomsIn list → (leftIn list k < concepts b) × (rightIn list k < concepts b)
+unfolding sidesIn
+sides-below b list e k l =
+    let test : ℕ → Bool = λ c. ltb c (concepts b) in
+    let some = not-true _ (sym (sides-some test list (axiomsIn list)) ∙ e) in
+    let both = not-false _ (none-below (λ j. not (test (leftIn list j) && test (rightIn list j))) (axiomsIn list) k some l) in
+    (ltb-true _ _ (and-left (test (leftIn list k)) (test (rightIn list k)) both), ltb-true _ _ (and-right (test (leftIn list k)) (test (rightIn list k)) both))
+
+module _ (b gone new : List ℕ) (whole : length gone % 4 ≡ 0) (numbers : numbersBelow b (sidesIn (gone ++ new)) ≡ true) where
+  pub gone-below : (k : ℕ) → k < axiomsIn gone → (leftIn gone k < concepts b) × (rightIn gone k < concepts b)
+  gone-below k l =
+      let (x, y) = sides-below b (gone ++ new) numbers k (omega (arith, axioms-together gone new whole)) in
+      (subst (λ (c : ℕ). c < concepts b) (left-first gone new whole k l) x, subst (λ (c : ℕ). c < concepts b) (right-first gone new whole k l) y)
+
+  pub new-below : (k : ℕ) → k < axiomsIn new → (leftIn new k < concepts b) × (rightIn new k < concepts b)
+  new-below k l =
+      let (x, y) = sides-below b (gone ++ new) numbers (axiomsIn gone + k) (omega (arith, axioms-together gone new whole)) in
+      (subst (λ (c : ℕ). c < concepts b) (left-second gone new whole k) x, subst (λ (c : ℕ). c < concepts b) (right-second gone new whole k) y)
+
+  pub edited-in-range : (F : Axioms) → InRange b F → InRange b (edited F gone new)
+  edited-in-range F range c d e =
+      ⊎-elim (λ (f, n). range c d f)
+      (λ h.
+      let (j, l, x, y) = listed-exact new c d .0 h in
+      let (p, q) = new-below j l in
+      (subst (λ (k : ℕ). k < concepts b) x p, subst (λ (k : ℕ). k < concepts b) y q))
+      (edited-exact F gone new c d .0 e)
+
+-- ---- how many
+
+-- All in force, none in force.
+pub in-force-at : (F : Axioms) (list : List ℕ) → allInForce F list ≡ true → (k : ℕ) → k < axiomsIn list → F (leftIn list k) (rightIn list k) ≡ true
+unfolding allInForce
+in-force-at F list e k l = not-false _ (none-below (λ k. not (F (leftIn list k) (rightIn list k))) (axiomsIn list) k (not-true _ e) l)
+
+pub new-at : (F : Axioms) (list : List ℕ) → noneInForce F list ≡ true → (k : ℕ) → k < axiomsIn list → F (leftIn list k) (rightIn list k) ≡ false
+unfolding noneInForce
+new-at F list e k l = none-below (λ k. F (leftIn list k) (rightIn list k)) (axiomsIn list) k (not-true _ e) l
+
+-- F without the first k axioms of a list, and with them: one less and one more at each step.
+unfoldable pub lacking : Axioms → List ℕ → ℕ → Axioms
+lacking F list k c d = F c d && not (among list k c d)
+
+unfoldable pub having : Axioms → List ℕ → ℕ → Axioms
+having F list k c d = F c d || among list k c d
+
+one-less : (f t a : Bool) → (f && not (t || a)) ≡ ((f && not a) && not t)
+one-less true true true = refl
+one-less true true false = refl
+one-less true false true = refl
+one-less true false false = refl
+one-less false t a = refl
+
+one-more : (f t a : Bool) → (f || (t || a)) ≡ ((f || a) || t)
+one-more true t a = refl
+one-more false true true = refl
+one-more false true false = refl
+one-more false false true = refl
+one-more false false false = refl
+
+pub lacking-step : (F : Axioms) (list : List ℕ) (k : ℕ) → lacking F list (suc k) ≡ withdrawn (lacking F list k) (leftIn list k) (rightIn list k)
+unfolding lacking among someBelow withdrawn
+lacking-step F list k = fun-ext (λ c. fun-ext (λ d. one-less (F c d) (eqb (leftIn list k) c && eqb (rightIn list k) d) (among list k c d)))
+
+pub having-step : (F : Axioms) (list : List ℕ) (k : ℕ) → having F list (suc k) ≡ added (having F list k) (leftIn list k) (rightIn list k)
+unfolding having among someBelow added
+having-step F list k = fun-ext (λ c. fun-ext (λ d. one-more (F c d) (eqb (leftIn list k) c && eqb (rightIn list k) d) (among list k c d)))
+
+pub lacking-none : (F : Axioms) (list : List ℕ) → lacking F list 0 ≡ F
+unfolding lacking among someBelow
+lacking-none F list = fun-ext (λ c. fun-ext (λ d. let t : (x : Bool) → (x && true) ≡ x = λ x. agree (x && true) x (and-left x true) (λ e. and-both x true e refl) in t (F c d)))
+
+pub having-none : (F : Axioms) (list : List ℕ) → having F list 0 ≡ F
+unfolding having among someBelow
+having-none F list = fun-ext (λ c. fun-ext (λ d. let t : (x : Bool) → (x || false) ≡ x = λ x. agree (x || false) x (λ e. ⊎-elim (λ h. h) (λ h. absurd (not-both h refl)) (either x false .0 e)) (λ e. either x false .1 (inl e)) in t (F c d)))
+
+pub edited-steps : (F : Axioms) (gone new : List ℕ) → edited F gone new ≡ having (lacking F gone (axiomsIn gone)) new (axiomsIn new)
+unfolding edited having lacking listed
+edited-steps F gone new = refl
+
+module _ (b : List ℕ) (F : Axioms) (list : List ℕ) (below : (k : ℕ) → k < axiomsIn list → (leftIn list k < concepts b) × (rightIn list k < concepts b))
+    (once : (k : ℕ) → k < axiomsIn list → among list k (leftIn list k) (rightIn list k) ≡ false) where
+  still-there : ((k : ℕ) → k < axiomsIn list → F (leftIn list k) (rightIn list k) ≡ true) → (k : ℕ) → k < axiomsIn list → lacking F list k (leftIn list k) (rightIn list k) ≡ true
+  unfolding lacking
+  still-there there k l = and-both (F (leftIn list k) (rightIn list k)) (not (among list k (leftIn list k) (rightIn list k))) (there k l) (ap not (once k l))
+
+  lacking-count : ((k : ℕ) → k < axiomsIn list → F (leftIn list k) (rightIn list k) ≡ true) → (k : ℕ) → k ≤ axiomsIn list → axiomCount b (lacking F list k) + k ≡ axiomCount b F
+  lacking-count there zero l = ap (λ (G : Axioms). axiomCount b G + 0) (lacking-none F list) ∙ (let z : axiomCount b F + 0 ≡ axiomCount b F = omega arith in z)
+  lacking-count there (suc k) l =
+      let (x, y) = below k (omega arith) in
+      let before = lacking-count there k (omega arith) in
+      let one = withdrawn-count b (lacking F list k) (leftIn list k) (rightIn list k) x y (still-there there k (omega arith)) in
+      omega (arith, ap (axiomCount b) (lacking-step F list k), one, before)
+
+  not-yet-there : ((k : ℕ) → k < axiomsIn list → F (leftIn list k) (rightIn list k) ≡ false) → (k : ℕ) → k < axiomsIn list → having F list k (leftIn list k) (rightIn list k) ≡ false
+  unfolding having
+  not-yet-there out k l = ap₂ _||_ (out k l) (once k l)
+
+  having-count : ((k : ℕ) → k < axiomsIn list → F (leftIn list k) (rightIn list k) ≡ false) → (k : ℕ) → k ≤ axiomsIn list → axiomCount b (having F list k) ≡ axiomCount b F + k
+  having-count out zero l = ap (axiomCount b) (having-none F list) ∙ (let z : axiomCount b F ≡ axiomCount b F + 0 = omega arith in z)
+  having-count out (suc k) l =
+      let (x, y) = below k (omega arith) in
+      let before = having-count out k (omega arith) in
+      let one = added-count b (having F list k) (leftIn list k) (rightIn list k) x y (not-yet-there out k (omega arith)) in
+      omega (arith, ap (axiomCount b) (having-step F list k), one, before)
+
+left-out : (F : Axioms) (gone new : List ℕ) (k : ℕ) → F (leftIn new k) (rightIn new k) ≡ false → lacking F gone (axiomsIn gone) (leftIn new k) (rightIn new k) ≡ false
+unfolding lacking
+left-out F gone new k e = ap (λ (x : Bool). x && not (among gone (axiomsIn gone) (leftIn new k) (rightIn new k))) e
+
+-- So many are in force after a change that passes 22, 23, 15, 18 and 16.
+pub edited-count : (b : List ℕ) (F : Axioms) (gone new : List ℕ) → length gone % 4 ≡ 0 → noneTwice (gone ++ new) ≡ true → numbersBelow b (sidesIn (gone ++ new)) ≡ true
+    → allInForce F gone ≡ true → noneInForce F new ≡ true → axiomCount b (edited F gone new) + axiomsIn gone ≡ axiomCount b F + axiomsIn new
+edited-count b F gone new whole once numbers there out =
+    let less = lacking-count b F gone (gone-below b gone new whole numbers) (once-first gone new whole once) (in-force-at F gone there) (axiomsIn gone) (omega arith) in
+    let W = lacking F gone (axiomsIn gone) in
+    let more =
+    having-count b W new (new-below b gone new whole numbers) (once-second gone new whole once) (λ k l. left-out F gone new k (new-at F new out k l)) (axiomsIn new) (omega arith)
+    in
+    omega (arith, ap (axiomCount b) (edited-steps F gone new), less, more)

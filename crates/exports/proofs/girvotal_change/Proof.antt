@@ -1,0 +1,54 @@
+-- `exports::girvotal_change` meets its contract.
+use native.Mathlib.Omega.{arith}
+use Rattle.exports.proofs.Exporting.{exported-short, exported-long}
+use Rattle.exports.proofs.Refusals.{edit-fits}
+use borrow.Author.Needs.{needs}
+use Rattle.exports.proofs.girvotal_change.Statement.{statement}
+use Rattle.exports.proofs.girvotal_change.Tie as tie
+
+returns : tie.Need-returns
+returns c = exported-short (omega arith)
+
+change-requires : tie.Need-change-requires
+change-requires c κs = search needs
+
+change-reply-requires : tie.Need-change-reply-requires
+change-reply-requires c κs = search needs
+
+give-requires : tie.Need-give-requires
+give-requires c κs =
+    let called = c .before .before .before .before .before .before .before .before .change in
+    let long = c .before .before .before .before .before .before .before .before .before .before .before .before .if1 .left in
+    (omega (arith, long), rw (c .change-reply .ensures) (edit-fits (called .result) (called .ensures)))
+
+same-length : tie.Need-same-length
+same-length c = search needs
+
+same-length-2 : tie.Need-same-length-2
+same-length-2 c = search needs
+
+same-length-3 : tie.Need-same-length-3
+same-length-3 c = search needs
+
+same-length-4 : tie.Need-same-length-4
+same-length-4 c = search needs
+
+returns-2 : tie.Need-returns-2
+returns-2 c =
+    let called = c .before .before .before .before .before .before .before .before .before .before .before .change in
+    let long = c .before .before .before .before .before .before .before .before .before .before .before .before .before .before .before .if1 .left in
+    exported-long (called .result) (omega (arith, long)) (called .ensures) (c .before .before .before .change-reply .ensures) (c .before .before .give .ensures)
+
+pub girvotal-change-spec : {M : Type 1} → statement M
+girvotal-change-spec =
+    tie.close
+    (tie.spec
+    returns
+    change-requires
+    change-reply-requires
+    give-requires
+    same-length
+    same-length-2
+    same-length-3
+    same-length-4
+    returns-2)
