@@ -3,13 +3,13 @@
 use Prim.Native.Nat.{ℕ, _≤_}
 use native.Mathlib.Omega.{arith}
 use mathlib.Core.Path.{_≡_, refl, sym, subst, _∙_}
-use mathlib.Core.Bool.{true, false}
+use mathlib.Core.Bool.{false}
 use mathlib.Core.Logic.{⊎-elim}
 use mathlib.Core.List.{List, [], _∷_, List·Memᴰ, List·Memᴰ·not-nil, List·Memᴰ·cases-cons}
 use lib.ListN.{length, drop, replicate}
 use Rattle.catalogue.specs.Words.{word, bytesOf}
 use Rattle.catalogue.specs.Header.{concepts, roles}
-use Rattle.catalogue.specs.Outcome.{accepted}
+use Rattle.catalogue.specs.Outcome.{accepted, refused}
 use Rattle.catalogue.specs.Examples.{w1}
 use Rattle.catalogue.proofs.Examples.{w1-well-formed, nineteen-bytes}
 use Rattle.rules.specs.Axioms.{Axioms, InRange}
@@ -23,7 +23,7 @@ use Rattle.classification.specs.declared.Classified.the-variants as classifying
 use Rattle.edits.specs.Lists.{edited}
 use Rattle.edits.specs.Edits.{Lent, lend, asked, Edits}
 use Rattle.edits.specs.declared.Changed.the-variants.{Done, Refused}
-use Rattle.edits.proofs.Asking.{Passed, rest-passed, passed-rest, refused-catalogue, refused-absent}
+use Rattle.edits.proofs.Asking.{refused-catalogue}
 use Rattle.edits.proofs.Checks.{asked-by-axioms}
 use Rattle.edits.proofs.Outcomes.{ends-refused, ends-fresh}
 use Rattle.worked.specs.Stores.{w1Store, w3Store}
@@ -31,12 +31,11 @@ use Rattle.worked.specs.Entries.{Changed}
 use Rattle.worked.specs.Table.{axioms1, axioms3, moved1}
 use Rattle.worked.proofs.Worked.{worked}
 use Rattle.worked.proofs.Stores.{otherAxiom, otherExpression, otherByte, fresh-computed}
-use Rattle.worked.proofs.Editing.{listsAsked, changed-in-range, change-asked}
+use Rattle.worked.proofs.Editing.{listsAsked, asked-of-lists, changed-in-range, change-asked}
 use Rattle.worked.proofs.Reading.{w3-axiom-count, seven}
 use Rattle.worked.proofs.W1.{range1}
 use Rattle.worked.proofs.W3.{w3-asks, w5-asks}
 use Rattle.worked.proofs.Moves.{move1-asks}
-use Rattle.worked.proofs.EditedExamples.{withdrawn15}
 use Rattle.demands.specs.Sequences.{outcomeOf, Turn, nothing, first, Sequence}
 use Rattle.demands.proofs.AfterCalls.{changeTurn, change-runs, classifyTurn, classify-runs}
 use Rattle.demands.proofs.Examples.{w1-asked, w1-classifies, w1Turn}
@@ -126,25 +125,21 @@ w3-edits : Edits w1 axiom15 [] (lent w1Store) (Done 10 0 0 4) (left w3Store)
 unfolding w1Store w3Store
 w3-edits = accepted-edits axiom15 [] axioms1 w3-asks few1 w1Store (worked .W1-fresh) 10 0 0 _ _ w3Store (worked .W3) (worked .W3-fresh) refl
 
--- Refused by 1, with 19 bytes as the catalogue; and by 18: what W3 passed up to 15 is passed again.
+-- Refused by 1, with 19 bytes as the catalogue; and by 18.
 bad-edits : Edits (replicate 19 0) axiom15 [] (lent w3Store) (Refused 1 0) (lent w3Store)
 unfolding asked
 bad-edits = ends-refused (replicate 19 0) axiom15 [] (lent w3Store) 1 0 (refused-catalogue (replicate 19 0) axiom15 [] _ _ _ _ (nineteen-bytes (replicate 19 0) refl))
 
-w3-passed : Passed w1 axiom15 [] (record { store = 35; work = 28; list = 14 }) true true
-unfolding lent w1Store
-w3-passed =
-    rest-passed w1 axiom15 [] (record { store = 35; work = 28; list = 14 }) true true axioms1
-    (sym (asked-by-axioms w1 axioms1 axiom15 [] (lent w1Store) (worked .W1-fresh) few1) ∙ accepted-asked axiom15 [] axioms1 w3-asks few1 w1Store (worked .W1-fresh))
-    .0
+absent-asks : listsAsked w1 axiom15 [] axioms3 ≡ refused 18 0
+unfolding listsAsked w1
+absent-asks = refl
 
 absent-edits : Edits w1 axiom15 [] (lent w3Store) (Refused 18 0) (lent w3Store)
 unfolding lent w3Store
 absent-edits =
     ends-refused w1 axiom15 [] (lent w3Store) 18 0
     (asked-by-axioms w1 axioms3 axiom15 [] (lent w3Store) (worked .W3-fresh) few3
-    ∙ passed-rest w1 axiom15 [] (record { store = 35; work = 28; list = 14 }) true true axioms3 w3-passed
-    ∙ refused-absent w1 axiom15 [] axioms3 withdrawn15)
+    ∙ asked-of-lists w1 axiom15 [] axioms3 _ (refused 18 0) absent-asks (worked .W1-accepted) (omega (arith, w1-lengths .0)) (omega (arith, w1-lengths .1)) (omega (arith, seven)))
 
 w5-edits : Edits w1 [] axiom15 (lent w3Store) (Done 0 0 10 4) (left w1Store)
 unfolding w1Store w3Store

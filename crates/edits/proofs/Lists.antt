@@ -3,13 +3,13 @@ use Prim.Native.Nat.{ℕ, zero, suc, _+_, _*_, _/_, _%_, _≤_, _<_}
 use native.Mathlib.Omega.{arith}
 use mathlib.Core.Path.{_≡_, refl, sym, ap, ap₂, subst, fun-ext, _∙_}
 use mathlib.Core.Logic.{_↔_, _⊎_, inl, inr, ⊎-elim}
-use mathlib.Core.Bool.{Bool, true, false, not, _&&_, _||_, and-assoc}
+use mathlib.Core.Bool.{Bool, true, false, not, _&&_, _||_, and-assoc, and-true, or-false}
 use mathlib.Core.List.{List, [], _∷_, _++_}
 use lib.Dec.{eqb, ltb, leb}
 use lib.ListN.{length, getD, length-append, List·getD-append}
 use lib.Seq.{getD-append-add}
 use borrow.Author.Tests.{eq-eqb, eqb-true, leb-true, ltb-true, not-true, not-false}
-use Rattle.booleans.proofs.Booleans.{both, either, negated, agree, not-both, not-true-false, and-left, and-right, and-both}
+use Rattle.booleans.proofs.Booleans.{both, either, negated, not-both, not-true-false, and-left, and-right, and-both}
 use Rattle.rows.specs.Bits.{someBelow}
 use Rattle.rows.proofs.Counting.{some-at, some-which, none-below}
 use Rattle.catalogue.specs.Words.{word}
@@ -89,29 +89,41 @@ module _ (gone new : List ℕ) (whole : length gone % 4 ≡ 0) where
   unfolding axiomsIn rightIn
   right-second k = ap (word (gone ++ new)) (let z : 4 * (length gone / 4 + k) + 2 ≡ length gone + (4 * k + 2) = omega arith in z) ∙ word-second (4 * k + 2)
 
-  -- No axiom twice in both together, and so in neither of them.
-  pub once-first : noneTwice (gone ++ new) ≡ true → (k : ℕ) → k < axiomsIn gone → among gone k (leftIn gone k) (rightIn gone k) ≡ false
-  unfolding noneTwice repeats
-  once-first e k l =
-      not-true-false _
-      (λ t.
-      let (j, lj, x, y) = among-exact gone k (leftIn gone k) (rightIn gone k) .0 t in
-      not-both
-      (among-exact (gone ++ new) k (leftIn (gone ++ new) k) (rightIn (gone ++ new) k) .1
-      (j, lj, left-first j (omega arith) ∙ x ∙ sym (left-first k l), right-first j (omega arith) ∙ y ∙ sym (right-first k l)))
-      (none-below (repeats (gone ++ new)) (axiomsIn (gone ++ new)) k (not-true _ e) (omega (arith, axioms-together))))
+-- A list stands in another from place p on.
+record Part (list all : List ℕ) (p : ℕ) : Type 0 where
+  within : p + axiomsIn list ≤ axiomsIn all
+  left-there : (k : ℕ) → k < axiomsIn list → leftIn all (p + k) ≡ leftIn list k
+  right-there : (k : ℕ) → k < axiomsIn list → rightIn all (p + k) ≡ rightIn list k
 
-  pub once-second : noneTwice (gone ++ new) ≡ true → (k : ℕ) → k < axiomsIn new → among new k (leftIn new k) (rightIn new k) ≡ false
-  unfolding noneTwice repeats
-  once-second e k l =
-      let p = axiomsIn gone in
-      not-true-false _
-      (λ t.
-      let (j, lj, x, y) = among-exact new k (leftIn new k) (rightIn new k) .0 t in
-      not-both
-      (among-exact (gone ++ new) (p + k) (leftIn (gone ++ new) (p + k)) (rightIn (gone ++ new) (p + k)) .1
-      (p + j, omega arith, left-second j ∙ x ∙ sym (left-second k), right-second j ∙ y ∙ sym (right-second k)))
-      (none-below (repeats (gone ++ new)) (axiomsIn (gone ++ new)) (p + k) (not-true _ e) (omega (arith, axioms-together))))
+first-part : (gone new : List ℕ) → length gone % 4 ≡ 0 → Part gone (gone ++ new) 0
+first-part gone new whole =
+    let at : (k : ℕ) → 0 + k ≡ k = λ k. omega arith in
+    record {
+      within = omega (arith, axioms-together gone new whole);
+      left-there = λ k l. ap (leftIn (gone ++ new)) (at k) ∙ left-first gone new whole k l;
+      right-there = λ k l. ap (rightIn (gone ++ new)) (at k) ∙ right-first gone new whole k l;
+    }
+
+second-part : (gone new : List ℕ) → length gone % 4 ≡ 0 → Part new (gone ++ new) (axiomsIn gone)
+second-part gone new whole =
+    record {
+      within = omega (arith, axioms-together gone new whole);
+      left-there = λ k l. left-second gone new whole k;
+      right-there = λ k l. right-second gone new whole k;
+    }
+
+-- No axiom twice in the whole, and so in no part of it.
+part-once : (list all : List ℕ) (p : ℕ) → Part list all p → noneTwice all ≡ true → (k : ℕ) → k < axiomsIn list → among list k (leftIn list k) (rightIn list k) ≡ false
+unfolding noneTwice repeats
+part-once list all p part e k l =
+    not-true-false _
+    (λ t.
+    let (j, lj, x, y) = among-exact list k (leftIn list k) (rightIn list k) .0 t in
+    let lj' : j < axiomsIn list = omega arith in
+    not-both
+    (among-exact all (p + k) (leftIn all (p + k)) (rightIn all (p + k)) .1
+    (p + j, omega arith, part .left-there j lj' ∙ x ∙ sym (part .left-there k l), part .right-there j lj' ∙ y ∙ sym (part .right-there k l)))
+    (none-below (repeats all) (axiomsIn all) (p + k) (not-true _ e) (omega (arith, part .within))))
 
 -- ---- numbers below n
 
@@ -135,7 +147,7 @@ sides-some test list (suc k) =
     ∙ ap₂ _&&_ (sides-some test list k) (every-two test (leftIn list k) (rightIn list k))
     ∙ pushed _ (test (leftIn list k) && test (rightIn list k))
 
-pub sides-below : (b list : List ℕ) → numbersBelow b (sidesIn list) ≡ true → (k : ℕ) → k < axiomsIn list → (leftIn list k < concepts b) × (rightIn list k < concepts b)
+sides-below : (b list : List ℕ) → numbersBelow b (sidesIn list) ≡ true → (k : ℕ) → k < axiomsIn list → (leftIn list k < concepts b) × (rightIn list k < concepts b)
 unfolding sidesIn
 sides-below b list e k l =
     let test : ℕ → Bool = λ c. ltb c (concepts b) in
@@ -143,16 +155,18 @@ sides-below b list e k l =
     let both = not-false _ (none-below (λ j. not (test (leftIn list j) && test (rightIn list j))) (axiomsIn list) k some l) in
     (ltb-true _ _ (and-left (test (leftIn list k)) (test (rightIn list k)) both), ltb-true _ _ (and-right (test (leftIn list k)) (test (rightIn list k)) both))
 
+part-below : (b list all : List ℕ) (p : ℕ) → Part list all p → numbersBelow b (sidesIn all) ≡ true
+    → (k : ℕ) → k < axiomsIn list → (leftIn list k < concepts b) × (rightIn list k < concepts b)
+part-below b list all p part numbers k l =
+    let (x, y) = sides-below b all numbers (p + k) (omega (arith, part .within)) in
+    (subst (λ (c : ℕ). c < concepts b) (part .left-there k l) x, subst (λ (c : ℕ). c < concepts b) (part .right-there k l) y)
+
 module _ (b gone new : List ℕ) (whole : length gone % 4 ≡ 0) (numbers : numbersBelow b (sidesIn (gone ++ new)) ≡ true) where
   pub gone-below : (k : ℕ) → k < axiomsIn gone → (leftIn gone k < concepts b) × (rightIn gone k < concepts b)
-  gone-below k l =
-      let (x, y) = sides-below b (gone ++ new) numbers k (omega (arith, axioms-together gone new whole)) in
-      (subst (λ (c : ℕ). c < concepts b) (left-first gone new whole k l) x, subst (λ (c : ℕ). c < concepts b) (right-first gone new whole k l) y)
+  gone-below = part-below b gone (gone ++ new) 0 (first-part gone new whole) numbers
 
   pub new-below : (k : ℕ) → k < axiomsIn new → (leftIn new k < concepts b) × (rightIn new k < concepts b)
-  new-below k l =
-      let (x, y) = sides-below b (gone ++ new) numbers (axiomsIn gone + k) (omega (arith, axioms-together gone new whole)) in
-      (subst (λ (c : ℕ). c < concepts b) (left-second gone new whole k) x, subst (λ (c : ℕ). c < concepts b) (right-second gone new whole k) y)
+  new-below = part-below b new (gone ++ new) (axiomsIn gone) (second-part gone new whole) numbers
 
   pub edited-in-range : (F : Axioms) → InRange b F → InRange b (edited F gone new)
   edited-in-range F range c d e =
@@ -205,11 +219,11 @@ having-step F list k = fun-ext (λ c. fun-ext (λ d. one-more (F c d) (eqb (left
 
 pub lacking-none : (F : Axioms) (list : List ℕ) → lacking F list 0 ≡ F
 unfolding lacking among someBelow
-lacking-none F list = fun-ext (λ c. fun-ext (λ d. let t : (x : Bool) → (x && true) ≡ x = λ x. agree (x && true) x (and-left x true) (λ e. and-both x true e refl) in t (F c d)))
+lacking-none F list = fun-ext (λ c. fun-ext (λ d. and-true (F c d)))
 
 pub having-none : (F : Axioms) (list : List ℕ) → having F list 0 ≡ F
 unfolding having among someBelow
-having-none F list = fun-ext (λ c. fun-ext (λ d. let t : (x : Bool) → (x || false) ≡ x = λ x. agree (x || false) x (λ e. ⊎-elim (λ h. h) (λ h. absurd (not-both h refl)) (either x false .0 e)) (λ e. either x false .1 (inl e)) in t (F c d)))
+having-none F list = fun-ext (λ c. fun-ext (λ d. or-false (F c d)))
 
 pub edited-steps : (F : Axioms) (gone new : List ℕ) → edited F gone new ≡ having (lacking F gone (axiomsIn gone)) new (axiomsIn new)
 unfolding edited having lacking listed
@@ -249,9 +263,9 @@ left-out F gone new k e = ap (λ (x : Bool). x && not (among gone (axiomsIn gone
 pub edited-count : (b : List ℕ) (F : Axioms) (gone new : List ℕ) → length gone % 4 ≡ 0 → noneTwice (gone ++ new) ≡ true → numbersBelow b (sidesIn (gone ++ new)) ≡ true
     → allInForce F gone ≡ true → noneInForce F new ≡ true → axiomCount b (edited F gone new) + axiomsIn gone ≡ axiomCount b F + axiomsIn new
 edited-count b F gone new whole once numbers there out =
-    let less = lacking-count b F gone (gone-below b gone new whole numbers) (once-first gone new whole once) (in-force-at F gone there) (axiomsIn gone) (omega arith) in
+    let less = lacking-count b F gone (gone-below b gone new whole numbers) (part-once gone (gone ++ new) 0 (first-part gone new whole) once) (in-force-at F gone there) (axiomsIn gone) (omega arith) in
     let W = lacking F gone (axiomsIn gone) in
     let more =
-    having-count b W new (new-below b gone new whole numbers) (once-second gone new whole once) (λ k l. left-out F gone new k (new-at F new out k l)) (axiomsIn new) (omega arith)
+    having-count b W new (new-below b gone new whole numbers) (part-once new (gone ++ new) (axiomsIn gone) (second-part gone new whole) once) (λ k l. left-out F gone new k (new-at F new out k l)) (axiomsIn new) (omega arith)
     in
     omega (arith, ap (axiomCount b) (edited-steps F gone new), less, more)

@@ -15,7 +15,7 @@ ghost use mathlib.Core.Path.{_≡_};
 ghost use mathlib.Core.Bool.{true};
 ghost use mathlib.Core.List.{_++_};
 ghost use lib.ListN.{length};
-ghost use Rattle.catalogue.specs.Outcome.{accepted, followed};
+ghost use Rattle.catalogue.specs.Outcome.{accepted};
 ghost use Rattle.catalogue.specs.WellFormed.{WellFormed};
 ghost use Rattle.catalogue.specs.Verdicts.{outcomeOf};
 ghost use Rattle.layout.specs.Layout.{Shaped};

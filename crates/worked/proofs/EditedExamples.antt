@@ -2,7 +2,7 @@
 use Prim.Native.Nat.{ℕ, _*_, _≤_}
 use native.Mathlib.Omega.{arith}
 use mathlib.Core.Path.{_≡_, refl, subst}
-use mathlib.Core.Bool.{true, false}
+use mathlib.Core.Bool.{true}
 use mathlib.Core.List.{List, [], _∷_}
 use lib.ListN.{length}
 use Rattle.catalogue.specs.Words.{word, bytesOf}
@@ -50,14 +50,10 @@ w7-axiom-count = refl
 w7-few : axiomCount w7 axioms7 ≤ 4096
 w7-few = omega (arith, w7-axiom-count)
 
--- (1,5) is in force in W1 and not in W3; added back, the axioms are W1's.
+-- (1,5) is in force in W1; withdrawn and added back, the axioms are W1's.
 in-force15 : allInForce axioms1 (1 ∷ 0 ∷ 5 ∷ 0 ∷ []) ≡ true
 unfolding listsAsked w1
 in-force15 = refl
-
-pub withdrawn15 : allInForce axioms3 (1 ∷ 0 ∷ 5 ∷ 0 ∷ []) ≡ false
-unfolding listsAsked w1
-withdrawn15 = refl
 
 pub w5-axioms : axioms5 ≡ axioms1
 w5-axioms = put-back axioms1 (1 ∷ 0 ∷ 5 ∷ 0 ∷ []) in-force15
