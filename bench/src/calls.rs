@@ -1,31 +1,68 @@
-//! The library's calls with the results that `reference::calls` has.
+//! The crate's calls with the arguments and results that `reference::calls` has.
 
-use crate::exported::{self, ENTRIES};
-use reference::calls::{Changed, Counts, Row};
-use reference::catalogue::Refusal;
+use girvotal::{Axiom, Catalogue, Concept};
+use reference::calls::{Changed, Counts, Row, Sizes};
+use reference::catalogue::{self, AXIOM_LENGTH, MAX_LISTED, Refusal};
 
-/// What a returned number and the entries of the answer say.
-pub fn result(returned: usize, entries: [u64; ENTRIES]) -> Result<[usize; ENTRIES], Refusal> {
-    match returned {
-        0 => Ok(entries.map(|entry| usize::try_from(entry).expect("a number of 64 bits"))),
-        refusal => Err(Refusal {
-            number: refusal % 65_536,
-            record: refusal / 65_536,
-        }),
+/// A refusal as the reference says it.
+pub fn refusal(refusal: girvotal::Refusal) -> Refusal {
+    Refusal {
+        number: refusal.question.number(),
+        record: refusal.record,
     }
 }
 
-/// Makes a call with an answer of four entries.
-fn answered(call: impl FnOnce(&mut [u64]) -> usize) -> Result<[usize; ENTRIES], Refusal> {
-    let mut entries = [0; ENTRIES];
-    let returned = call(&mut entries);
-    result(returned, entries)
+/// Makes a call on a catalogue, if the bytes are one.
+fn on<'a, T>(
+    catalogue: &'a [u8],
+    call: impl FnOnce(Catalogue<'a>) -> Result<T, girvotal::Refusal>,
+) -> Result<T, Refusal> {
+    Catalogue::new(catalogue).and_then(call).map_err(refusal)
+}
+
+/// The concept of a number. One past two bytes is refused as the last of these is.
+fn concept(number: usize) -> Concept {
+    Concept(u16::try_from(number).unwrap_or(u16::MAX))
+}
+
+/// An axiom of the crate's.
+pub fn axiom((left, right): catalogue::Axiom) -> Axiom {
+    Axiom {
+        left: concept(left),
+        right: concept(right),
+    }
+}
+
+/// The axioms of a list. One that is not of whole axioms is refused as a longer one is.
+fn axioms(list: &[u8]) -> Vec<Axiom> {
+    let listed = if list.len().is_multiple_of(AXIOM_LENGTH) {
+        catalogue::axioms(list)
+    } else {
+        vec![(0, 0); MAX_LISTED + 1]
+    };
+    listed.into_iter().map(axiom).collect()
+}
+
+/// What a catalogue asks for.
+pub fn sizes(catalogue: &[u8]) -> Result<Sizes, Refusal> {
+    let sizes = on(catalogue, |catalogue| Ok(catalogue.sizes()))?;
+    Ok(Sizes {
+        store: sizes.store,
+        work: sizes.work,
+        list: sizes.list,
+        output: sizes.written,
+    })
 }
 
 /// Classifies the catalogue's own axioms into the store.
 pub fn classify(catalogue: &[u8], store: &mut [u8], work: &mut [u8]) -> Result<Counts, Refusal> {
-    let [pairs, links, ..] = answered(|a| exported::classify(catalogue, store, work, a))?;
-    Ok(Counts { pairs, links })
+    let counts = on(catalogue, |catalogue| {
+        girvotal::classify(&catalogue, store, work)
+    })?;
+    Ok(Counts {
+        pairs: counts.pairs,
+        links: counts.links,
+    })
 }
 
 /// Withdraws the axioms of one list and adds those of the other.
@@ -37,20 +74,23 @@ pub fn change(
     work: &mut [u8],
     touched: &mut [u8],
 ) -> Result<Changed, Refusal> {
-    let [removed, returned, gained, touched] =
-        answered(|a| exported::change(catalogue, withdrawn, added, store, work, touched, a))?;
+    let (withdrawn, added) = (axioms(withdrawn), axioms(added));
+    let changed = on(catalogue, |catalogue| {
+        girvotal::change(&catalogue, &withdrawn, &added, store, work, touched)
+    })?;
     Ok(Changed {
-        removed,
-        returned,
-        gained,
-        touched,
+        removed: changed.removed,
+        returned: changed.returned,
+        gained: changed.gained,
+        touched: changed.touched.len(),
     })
 }
 
 /// Whether the store has C ⊑ D.
 pub fn lookup(catalogue: &[u8], c: usize, d: usize, store: &[u8]) -> Result<bool, Refusal> {
-    let [yes, ..] = answered(|a| exported::lookup(catalogue, c, d, store, a))?;
-    Ok(yes == 1)
+    on(catalogue, |catalogue| {
+        girvotal::lookup(&catalogue, concept(c), concept(d), store)
+    })
 }
 
 /// Lists the atomic C with C ⊑ D; their count.
@@ -60,19 +100,24 @@ pub fn listing(
     store: &[u8],
     list: &mut [u8],
 ) -> Result<usize, Refusal> {
-    let [count, ..] = answered(|a| exported::list(catalogue, d, store, list, a))?;
-    Ok(count)
+    on(catalogue, |catalogue| {
+        girvotal::list(&catalogue, concept(d), store, list).map(|listed| listed.len())
+    })
 }
 
 /// A concept's pair row, as that part of the store.
 pub fn row<'a>(catalogue: &[u8], c: usize, store: &'a [u8]) -> Result<Row<'a>, Refusal> {
-    let [offset, width, ..] = answered(|a| exported::row(catalogue, c, store, a))?;
-    let bytes = &store[offset..offset + width];
+    let row = on(catalogue, |catalogue| {
+        girvotal::row(&catalogue, concept(c), store)
+    })?;
+    let bytes = row.bytes();
+    let offset = bytes.as_ptr().addr() - store.as_ptr().addr();
     Ok(Row { offset, bytes })
 }
 
 /// Writes the catalogue with the axioms in force; its length.
 pub fn write(catalogue: &[u8], store: &[u8], output: &mut [u8]) -> Result<usize, Refusal> {
-    let [length, ..] = answered(|a| exported::write(catalogue, store, output, a))?;
-    Ok(length)
+    on(catalogue, |catalogue| {
+        girvotal::write(&catalogue, store, output).map(<[u8]>::len)
+    })
 }

@@ -5,7 +5,8 @@
 mod library;
 
 use reference::calls::{self, Changed};
-use reference::catalogue::{Axiom, Catalogue, Concept, Refusal, axioms as listed, list};
+use reference::catalogue::{Axiom, Catalogue, Concept, MAX_CONCEPTS, MAX_ROLES, Refusal};
+use reference::catalogue::{axioms as listed, list};
 use reference::examples;
 use reference::random::Random;
 use reference::store::Layout;
@@ -112,6 +113,53 @@ fn every_length_of_a_catalogue() {
                 total[0] = length as u8;
                 compare_all(&total, &store);
             }
+        }
+    }
+}
+
+/// The catalogues in `data`.
+fn files() -> Vec<Vec<u8>> {
+    let folder = concat!(env!("CARGO_MANIFEST_DIR"), "/../data");
+    let entries = std::fs::read_dir(folder).expect("the folder of catalogues");
+    let paths = entries.map(|entry| entry.expect("an entry").path());
+    let catalogues = paths.filter(|path| path.extension().is_some_and(|kind| kind == "bin"));
+    catalogues
+        .map(|path| std::fs::read(path).expect("a readable file"))
+        .collect()
+}
+
+/// Check of every file at every length, and of the small ones with every byte at
+/// every value.
+#[test]
+fn check_of_damaged_files() {
+    const SMALL: usize = 1100;
+    for bytes in files() {
+        (0..=bytes.len()).for_each(|length| library::compare_sizes(&bytes[..length]));
+        if bytes.len() > SMALL {
+            continue;
+        }
+        let mut damaged = bytes.clone();
+        for at in 0..bytes.len() {
+            for value in 0..=u8::MAX {
+                damaged[at] = value;
+                library::compare_sizes(&damaged);
+            }
+            damaged[at] = bytes[at];
+        }
+    }
+}
+
+/// Check of every count of concepts and roles, to past the limits.
+#[test]
+fn check_of_every_size() {
+    for concepts in 0..=MAX_CONCEPTS + 1 {
+        for roles in 0..=MAX_ROLES + 1 {
+            let catalogue = Catalogue {
+                concepts: vec![Concept::Atomic; concepts],
+                roles,
+                ..examples::w7().bare()
+            };
+            library::compare_sizes(&catalogue.bytes());
         }
     }
 }

@@ -27,6 +27,16 @@ pub struct Changed {
     pub touched: usize,
 }
 
+/// What a catalogue asks for, in bytes: of a store, of a work space, of a list,
+/// and the most that write gives.
+#[derive(Clone, Copy, Debug, PartialEq, Eq)]
+pub struct Sizes {
+    pub store: usize,
+    pub work: usize,
+    pub list: usize,
+    pub output: usize,
+}
+
 /// A pair row: its offset in the store, and that part of the store.
 #[derive(Clone, Copy, Debug, PartialEq, Eq)]
 pub struct Row<'a> {
@@ -116,6 +126,21 @@ fn write_list(list: &mut [u8], concepts: &BTreeSet<usize>) {
     for (entry, &concept) in list.chunks_mut(2).zip(concepts) {
         entry.copy_from_slice(&[(concept % 256) as u8, (concept / 256) as u8]);
     }
+}
+
+/// What a catalogue asks for. At most every pair of concepts is an axiom in
+/// force, and at most 4,096 are. Questions 1 to 9.
+pub fn sizes(catalogue: &[u8]) -> Result<Sizes, Refusal> {
+    let catalogue = Catalogue::read(catalogue)?;
+    let layout = Layout::new(&catalogue);
+    let concepts = catalogue.concepts.len();
+    let axioms = MAX_AXIOMS.min(concepts.pow(2));
+    Ok(Sizes {
+        store: layout.store_length(),
+        work: layout.work_length(),
+        list: 2 * concepts,
+        output: catalogue.length_with(axioms),
+    })
 }
 
 /// Classifies the catalogue's own axioms into the store. Questions 1 to 11.

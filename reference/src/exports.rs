@@ -1,7 +1,7 @@
 //! The exported calls: each returns a number, and writes four entries of an
 //! answer where it is accepted.
 
-use crate::calls::{self, Changed};
+use crate::calls::{self, Changed, Sizes};
 use crate::catalogue::Refusal;
 
 /// How many entries an answer has at least.
@@ -34,6 +34,18 @@ pub(crate) fn entries(changed: Changed) -> [usize; ENTRIES] {
         touched,
     } = changed;
     [removed, returned, gained, touched]
+}
+
+pub fn check(catalogue: &[u8], answer: &mut [u64]) -> usize {
+    exported(answer, || {
+        let Sizes {
+            store,
+            work,
+            list,
+            output,
+        } = calls::sizes(catalogue)?;
+        Ok([store, work, list, output])
+    })
 }
 
 pub fn classify(catalogue: &[u8], store: &mut [u8], work: &mut [u8], answer: &mut [u64]) -> usize {

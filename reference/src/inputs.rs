@@ -2,7 +2,6 @@
 //! catalogues and of those in `data/`.
 
 use crate::calls;
-use crate::catalogue::Concept;
 use crate::edit_cases;
 use crate::examples;
 use crate::running_cases;
@@ -197,11 +196,56 @@ const CALL_CASES: &[CallCase] = &[
     (6, [0, 0], FOUR, [0, 0], "w1", "w1-stray"),
     (6, [0, 0], FOUR, [0, u16::MAX], "w10-bare", "w10"),
     (6, [0, 0], FOUR, [0, 0], "w10-bare", "w10-over"),
+    // check, and of each of CHECKED
+    (7, [0, 0], EVERY, [0, 0], "w1", ""),
+    (7, [0, 0], EVERY, [0, 0], "w1-unsorted", ""),
+];
+
+/// The catalogues that gate_calls has checked, right and faulty.
+const CHECKED: &[&str] = &[
+    "w6",
+    "w7",
+    "w8",
+    "w9",
+    "w10-bare",
+    "example1",
+    "example4",
+    "self-axiom",
+    "tops",
+    "tops-bare",
+    "wide",
+    "shared-parts",
+    "chain",
+    "chain-64",
+    "bookings-2",
+    "chain-0",
+    "composed-0",
+    "dag-0",
+    "doubles-0",
+    "doubles-1",
+    "small-1",
+    "timing-dense",
+    "tiny-0",
+    "tiny-2",
+    "empty",
+    "w1-cut",
+    "w1-total",
+    "w1-counts",
+    "w1-offsets",
+    "w1-kind",
+    "w1-fields",
+    "w1-roles",
+    "w1-sides",
+    "example1-inclusion",
+    "tiny-2-inclusion",
+    "tiny-2-composition",
 ];
 
 fn call_cases(data: &Path) -> io::Result<Vec<u8>> {
+    let check = |&name: &&'static str| (7, [0, 0], FOUR, [0, 0], name, "");
+    let cases = CALL_CASES.iter().copied().chain(CHECKED.iter().map(check));
     let mut input = vec![];
-    for &(call, [c, d], entries, [store, other], name, read) in CALL_CASES {
+    for (call, [c, d], entries, [store, other], name, read) in cases {
         let bytes = catalogue(data, name)?;
         let read = classified(read);
         for &entries in entries {
@@ -238,23 +282,42 @@ fn classified(name: &str) -> Vec<u8> {
     store
 }
 
-/// The bytes of a catalogue: a faulty variant of `w1`, a built-in one, also
-/// without its axioms (`NAME-bare`), or `NAME.bin` in the folder.
+/// Variants of catalogues that are faulty by one byte: of which, where the byte
+/// stands, and its value. `tiny-2-inclusion` and `tiny-2-composition` are at fault
+/// in record 1.
+const FAULTY: &[(&str, &str, usize, u8)] = &[
+    ("w1-total", "w1", 0, 81),
+    ("w1-counts", "w1", 2, 0),
+    ("w1-offsets", "w1", 12, 21),
+    ("w1-kind", "w1", 32, 4),
+    ("w1-fields", "w1", 52, 3),
+    ("w1-roles", "w1", 66, 3),
+    ("w1-sides", "w1", 74, 7),
+    ("example1-inclusion", "example1", 62, 3),
+    ("tiny-2-inclusion", "tiny-2", 68, 2),
+    ("tiny-2-composition", "tiny-2", 84, 2),
+];
+
+/// The bytes of a catalogue: none, a faulty variant, a built-in one, also without
+/// its axioms (`NAME-bare`), or `NAME.bin` in the folder.
 pub(crate) fn catalogue(data: &Path, name: &str) -> io::Result<Vec<u8>> {
     let mut w1 = examples::w1();
     let bare = name.strip_suffix("-bare").and_then(examples::named);
     let known = examples::named(name).or(bare.map(|known| known.bare()));
-    match (name, known) {
-        ("w1-cut", _) => Ok(w1.bytes()[..19].to_vec()),
-        ("w1-unsorted", _) => {
+    let faulty = FAULTY.iter().find(|(faulty, ..)| *faulty == name);
+    match (name, faulty, known) {
+        ("empty", ..) => Ok(vec![]),
+        ("w1-cut", ..) => Ok(w1.bytes()[..19].to_vec()),
+        ("w1-unsorted", ..) => {
             w1.axioms.swap(1, 2);
             Ok(w1.bytes())
         }
-        ("w1-fields", _) => {
-            w1.concepts[5] = Concept::Existential(3, 2);
-            Ok(w1.bytes())
+        (_, Some(&(_, of, at, value)), _) => {
+            let mut bytes = catalogue(data, of)?;
+            bytes[at] = value;
+            Ok(bytes)
         }
-        (_, Some(known)) => Ok(known.bytes()),
-        (_, None) => fs::read(data.join(name).with_extension("bin")),
+        (_, None, Some(known)) => Ok(known.bytes()),
+        (_, None, None) => fs::read(data.join(name).with_extension("bin")),
     }
 }

@@ -158,7 +158,8 @@ pub fn gate_calls(input: &[u8]) -> String {
                 3 => exports::lookup(catalogue, c, d, read, answer),
                 4 => exports::list(catalogue, d, read, other_lent, answer),
                 5 => exports::row(catalogue, c, read, answer),
-                _ => exports::write(catalogue, read, other_lent, answer),
+                6 => exports::write(catalogue, read, other_lent, answer),
+                _ => exports::check(catalogue, answer),
             }),
         };
         lines += &format!(" store {} other {}\n", fnv1a(&store), fnv1a(&other));

@@ -19,7 +19,9 @@ struct Lent {
     second: usize,
 }
 
-const CALLS: [&str; 6] = ["classify", "change", "lookup", "listing", "row", "write"];
+const CALLS: [&str; 7] = [
+    "check", "classify", "change", "lookup", "listing", "row", "write",
+];
 
 /// The questions from 10 on, in their order.
 const ORDER: [usize; 13] = [10, 11, 12, 22, 23, 13, 14, 15, 18, 16, 17, 19, 20];
@@ -27,6 +29,7 @@ const ORDER: [usize; 13] = [10, 11, 12, 22, 23, 13, 14, 15, 18, 16, 17, 19, 20];
 /// Those that a call puts.
 fn questions(call: &str) -> &'static [usize] {
     match call {
+        "check" => &[],
         "classify" => &[10, 11],
         "change" => &[10, 11, 12, 22, 23, 13, 14, 15, 18, 16, 17],
         "lookup" | "row" => &[10, 13, 14, 15, 19],
@@ -50,6 +53,7 @@ fn refusal(call: &str, lent: &Lent) -> Option<Refusal> {
         second,
     } = &mut after;
     let refusal = match call {
+        "check" => calls::sizes(catalogue).err(),
         "classify" => calls::classify(catalogue, store, work).err(),
         "change" => calls::change(catalogue, withdrawn, added, store, work, list).err(),
         "lookup" => calls::lookup(catalogue, *first, *second, store).err(),
@@ -168,7 +172,7 @@ fn other_checks_in_order() {
             assert_eq!(got, Some(Refusal { number, record: 0 }), "{call}");
         }
     }
-    for call in ["classify", "change", "write"] {
+    for call in ["check", "classify", "change", "write"] {
         assert_eq!(refusal(call, &failing_from(None, call, &classified)), None);
     }
 }

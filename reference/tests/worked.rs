@@ -1,7 +1,7 @@
 //! The worked examples W1 to W10 of document 01, those of request Four, and
 //! others beside them.
 
-use reference::calls::{self, Changed, Counts};
+use reference::calls::{self, Changed, Counts, Sizes};
 use reference::catalogue::{Axiom, Catalogue, Concept, Refusal, list};
 use reference::{examples, listing};
 
@@ -408,6 +408,45 @@ fn w10_at_most_4096_axioms() {
     // One axiom more than the limit, marked by hand in the row of concept 64.
     lent.store[64 * 9] = 1;
     assert_eq!(lent.lookup(0, 1), Err(refusal(14)));
+}
+
+#[test]
+fn sizes_are_the_least_that_the_calls_take() {
+    let w1 = Sizes {
+        store: 35,
+        work: 28,
+        list: 14,
+        output: 264,
+    };
+    assert_eq!(calls::sizes(&examples::w1().bytes()), Ok(w1));
+    for (name, catalogue) in examples::EXAMPLES {
+        let catalogue = catalogue().bare();
+        let n = catalogue.concepts.len();
+        let bytes = catalogue.bytes();
+        let sizes = calls::sizes(&bytes).expect("an accepted catalogue");
+        let mut store = vec![FILL; sizes.store];
+        let mut work = vec![FILL; sizes.work];
+        let short = calls::classify(&bytes, &mut store, &mut work[1..]);
+        assert_eq!(short, Err(refusal(11)), "{name}");
+        let short = calls::classify(&bytes, &mut store[1..], &mut work);
+        assert_eq!(short, Err(refusal(10)), "{name}");
+        let classified = calls::classify(&bytes, &mut store, &mut work);
+        assert!(classified.is_ok(), "{name}");
+        let mut list = vec![FILL; sizes.list];
+        let short = calls::listing(&bytes, 0, &store, &mut list[1..]);
+        assert_eq!(short, Err(refusal(12)), "{name}");
+        assert!(calls::listing(&bytes, 0, &store, &mut list).is_ok());
+
+        // As many axioms as can be in force, marked by hand.
+        for (left, right) in (0..n).flat_map(|c| (0..n).map(move |d| (c, d))).take(4096) {
+            store[left * n.div_ceil(8) + right / 8] |= 1 << (right % 8);
+        }
+        let mut output = vec![FILL; sizes.output];
+        let short = calls::write(&bytes, &store, &mut output[1..]);
+        assert_eq!(short, Err(refusal(20)), "{name}");
+        let whole = calls::write(&bytes, &store, &mut output);
+        assert_eq!(whole, Ok(sizes.output), "{name}");
+    }
 }
 
 #[test]

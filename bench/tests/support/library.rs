@@ -1,9 +1,10 @@
-//! The library's calls, each first made on copies of its buffers with answers
-//! of 0 to 3 entries and of 6: what must be kept is kept.
+//! The library's calls: the exported functions on copies of the buffers with
+//! answers of 0 to 3 entries and of 6, where what must be kept is kept, and then
+//! the crate's calls, which answer and leave the same.
 
 use bench::calls;
-use bench::exported::{self, ENTRIES, SHORT_ANSWER};
-use reference::calls::{self as other, Changed, Counts, Row};
+use girvotal::exported::{self, ENTRIES, SHORT_ANSWER};
+use reference::calls::{self as other, Changed, Counts, Row, Sizes};
 use reference::catalogue::{Catalogue, Refusal};
 
 /// What an answer's entries hold before a call.
@@ -33,7 +34,22 @@ fn probe<const N: usize>(
         assert_eq!(entries, [MARK; ENTRIES], "refused: the answer is kept");
         assert!(buffers == before, "refused: the buffers are kept");
     }
-    (calls::result(returned, entries), buffers)
+    let result = match girvotal::Refusal::of(returned) {
+        Some(refusal) => Err(calls::refusal(refusal)),
+        None => Ok(entries.map(|entry| usize::try_from(entry).expect("a number of 64 bits"))),
+    };
+    (result, buffers)
+}
+
+pub fn sizes(catalogue: &[u8]) -> Result<Sizes, Refusal> {
+    let call = |_: &mut [_; 0], answer: &mut _| exported::check(catalogue, answer);
+    let (probed, _) = probe([], call);
+    let result = calls::sizes(catalogue);
+    assert_eq!(
+        probed,
+        result.map(|sizes| [sizes.store, sizes.work, sizes.list, sizes.output])
+    );
+    result
 }
 
 pub fn classify(catalogue: &[u8], store: &mut [u8], work: &mut [u8]) -> Result<Counts, Refusal> {
@@ -110,9 +126,16 @@ pub fn write(catalogue: &[u8], store: &[u8], output: &mut [u8]) -> Result<usize,
     result
 }
 
-/// Compares what the library reads from a store, right or wrong, with what the
-/// reference reads: every pair of concepts where there are few, else some.
+/// Compares what a catalogue asks for, if it is one, or why it is refused.
+pub fn compare_sizes(catalogue: &[u8]) {
+    let expected = other::sizes(catalogue);
+    assert_eq!(sizes(catalogue), expected, "check of {catalogue:?}");
+}
+
+/// Compares what the library reads from a catalogue and a store, right or wrong,
+/// with what the reference reads: every pair of concepts where there are few, else some.
 pub fn compare_reading(catalogue: &[u8], store: &[u8]) {
+    compare_sizes(catalogue);
     let n = Catalogue::read(catalogue).map_or(1, |read| read.concepts.len());
     let stride = if n <= 20 { 1 } else { 1 + n / 5 };
     let fill = 0x3c;

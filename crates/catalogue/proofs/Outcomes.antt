@@ -50,6 +50,12 @@ each-accepted ok n number rest e =
     let all : firstFault ok n ≡ n = eqb-true _ n (a .0) in
     (λ k l. first-fault ok n .passed k (omega arith), a .1)
 
+-- A refusal by another number: the answer was yes, and the rest refuses so.
+pub ask-past : (t : Bool) (number at : ℕ) (rest : Outcome) {n i : ℕ} → ¬ (number ≡ n) → ask t number at rest ≡ refused n i → (t ≡ true) × (rest ≡ refused n i)
+unfolding ask
+ask-past true number at rest other e = (refl, e)
+ask-past false number at rest {n} other e = absurd (other (let same : number ≡ n = cc in same))
+
 -- What follows questions follows the last of them.
 pub followed-ask : (t : Bool) (number at : ℕ) (one rest : Outcome) → followed (ask t number at one) rest ≡ ask t number at (followed one rest)
 unfolding ask followed

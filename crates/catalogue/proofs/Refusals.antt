@@ -7,7 +7,7 @@ use mathlib.Core.List.{List}
 use lib.Dec.{eqb, lit≤}
 use Rattle.catalogue.specs.Header.{concepts, inclusions, compositions, axioms}
 use Rattle.catalogue.specs.Outcome.{Outcome, accepted, refused, ask, askEach, firstFault}
-use Rattle.catalogue.specs.Checks.{headerFits, totalRight, countsInLimits, offsetsRight, kindRight, fieldsRight, inclusionRight, compositionRight, sidesRight, risingRight, recordChecks, catalogueChecks}
+use Rattle.catalogue.specs.Checks.{headerFits, totalRight, countsInLimits, offsetsRight, kindRight, fieldsRight, inclusionRight, compositionRight, sidesRight, risingRight, recordChecks, catalogueChecks, checked}
 use Rattle.catalogue.proofs.FirstFault.{first-fault}
 use Rattle.catalogue.proofs.Outcomes.{never-both}
 use Rattle.catalogue.proofs.Tests.{limits}
@@ -55,3 +55,7 @@ small-catalogue b rest then =
     (small-each (sidesRight b) (axioms b) 8 _ (lit≤ tt) (lit≤ tt) (l .5)
     (small-each (risingRight b) (axioms b) 9 rest (lit≤ tt) (lit≤ tt) (l .5)
     then)))))))))
+
+pub small-checked : (b : List ℕ) → Small (checked b)
+unfolding checked
+small-checked b = small-catalogue b accepted small-accepted

@@ -5,7 +5,6 @@ use mathlib.Core.Path.{_≡_, refl, sym, ap, subst, _∙_}
 use mathlib.Core.Bool.{Bool, true, false}
 use mathlib.Core.List.{List, [], _∷_, _++_, List·Memᴰ, List·Memᴰ·head, List·Memᴰ·tail, List·Memᴰ·not-nil}
 use lib.Dec.{eqb, lit≤}
-use lib.ListN.{length}
 use Rattle.catalogue.specs.Header.{concepts, inclusions, compositions, axioms}
 use Rattle.catalogue.specs.Outcome.{Outcome, accepted, refused, ask, askEach, firstFault}
 use Rattle.catalogue.specs.Checks.{headerFits, totalRight, countsInLimits, offsetsRight, kindRight, fieldsRight, inclusionRight, compositionRight, sidesRight, risingRight}
@@ -17,18 +16,17 @@ use Rattle.store.proofs.Work.{work-stays}
 use Rattle.classification.proofs.Outcomes.{answer-outcome}
 use Rattle.edits.specs.Edits.{Lent}
 use Rattle.edits.proofs.Outcomes.{answer-outcome as change-answer}
-use Rattle.writing.specs.Write.{ByOutcome, wrote, stays}
-use Rattle.writing.specs.declared.Wrote.{Wrote}
-use Rattle.lookups.specs.Answers.{looked, lookedUp}
-use Rattle.lookups.specs.Checks.{readChecks, listChecks}
-use Rattle.lookups.specs.Listings.{kindsUnder, listed, listAfter}
-use Rattle.lookups.specs.Rows.{handed, rowAnswer}
+use Rattle.writing.proofs.Outcomes.{answer-outcome as write-answer, refused-keeps}
+use Rattle.lookups.specs.Listings.{kindsUnder, listAfter}
+use Rattle.lookups.specs.Rows.{rowAnswer}
+use Rattle.lookups.proofs.Outcomes.{lookup-outcome, list-outcome, row-outcome}
 use Rattle.lookups.proofs.DemandEntries.{listing-finds}
-use Rattle.demands.specs.PublicCalls.{PublicCall, classify, change, lookup, listing, row, write, lookupOutcome, listOutcome, rowOutcome, writeOutcome}
-use Rattle.demands.specs.PublicCalls.{Returns, classifies, changes, looks-up, lists, hands-out, writes}
+use Rattle.sizing.proofs.Answered.{answer-outcome as check-answer}
+use Rattle.demands.specs.PublicCalls.{PublicCall, check, classify, change, lookup, listing, row, write}
+use Rattle.demands.specs.PublicCalls.{Returns, measures, classifies, changes, looks-up, lists, hands-out, writes}
 use Rattle.demands.specs.DemandOne.{Fault, damagedCatalogue, Wrong, refusal, faults, ByFirst, none, here, later, Kept, RefusedFirst, DemandOne}
 use Rattle.demands.proofs.AfterCalls.{after-calls}
-use Rattle.demands.proofs.Questions.{classify-asked, change-asked, read-asked, listing-asked, write-asked}
+use Rattle.demands.proofs.Questions.{check-asked, classify-asked, change-asked, read-asked, listing-asked, write-asked}
 
 -- ---- the numbers of a damaged catalogue
 
@@ -62,6 +60,7 @@ nine-questions b =
 
 -- Every call asks about the catalogue first.
 after-catalogue : (c : PublicCall) → (fs : List Fault) × (faults c ≡ damagedCatalogue ∷ fs)
+after-catalogue check = (_, refl)
 after-catalogue classify = (_, refl)
 after-catalogue (change gone new) = (_, refl)
 after-catalogue (lookup c d) = (_, refl)
@@ -114,34 +113,12 @@ module _ (b : List ℕ) (u : Lent) where
   read-only : (number : ℕ) → Kept b number u u
   read-only number = record { store = refl; work = sym (work-stays (workUsed b) number (u .work)); list = refl }
 
--- ---- the answers
-
-looked-outcome : (o : Outcome) (has : Bool) → lookupOutcome (looked o has) ≡ o
-looked-outcome accepted true = refl
-looked-outcome accepted false = refl
-looked-outcome (refused number at) has = refl
-
-listed-outcome : (o : Outcome) (names : List ℕ) → listOutcome (listed o names) ≡ o
-listed-outcome accepted names = refl
-listed-outcome (refused number at) names = refl
-
-handed-outcome : (o : Outcome) (offset size : ℕ) → rowOutcome (handed o offset size) ≡ o
-handed-outcome accepted offset size = refl
-handed-outcome (refused number at) offset size = refl
-
-wrote-outcome : {b store output output' : List ℕ} {o : Outcome} {a : Wrote} → ByOutcome b store output o a output' → writeOutcome a ≡ o
-wrote-outcome (wrote e) = refl
-wrote-outcome stays = refl
-
-write-keeps : {b store output output' : List ℕ} {o : Outcome} {a : Wrote} {number at : ℕ} → ByOutcome b store output o a output' → o ≡ refused number at
-    → output' ≡ output
-write-keeps (wrote e) q = let z : _≡_ {A = ℕ} 0 1 = cc in absurd (omega arith)
-write-keeps stays q = refl
-
 -- ---- each call
 
 calls : (b : List ℕ) (u : Lent) (c : PublicCall) (o : Outcome) (v : Lent) → Returns b u c o v → RefusedFirst b u c o v
-unfolding lookedUp rowAnswer
+calls b u c o v (measures {a = a} e) =
+    let answer = check-answer b a e in
+    refused-first b u c o v (subst (ByFirst b u (faults c)) (sym answer) (check-asked b u)) (λ number at _. read-only b u number)
 calls b u c o v (classifies {a = a} {store = store} {work = work} call) =
     let answer = answer-outcome b (u .store) (u .work) a store work call in
     refused-first b u c o v (subst (ByFirst b u (faults c)) (sym answer) (classify-asked b u))
@@ -155,27 +132,25 @@ calls b u c o v (changes {gone = gone} {new = new} {a = a} call) =
     let k = call .refuses number at (sym answer ∙ e) in
     record { store = k .store-kept; work = k .work-kept; list = k .list-kept })
 calls b u c o v (looks-up {c = x} {d = y} {a = a} e) =
-    let answer : o ≡ readChecks b (x ∷ y ∷ []) (u .store) = ap lookupOutcome e ∙ looked-outcome _ _ in
+    let answer = lookup-outcome b x y (u .store) a e in
     refused-first b u c o v (subst (ByFirst b u (faults c)) (sym answer) (read-asked b u (x ∷ y ∷ []))) (λ number at _. read-only b u number)
 calls b u c o v (lists {d = d} {a = a} {list = list} f) =
-    let names = kindsUnder b d (u .store) in
-    let checks = listChecks b (d ∷ []) (u .store) (length (u .list)) in
-    let answer : o ≡ checks = ap listOutcome (f .answer) ∙ listed-outcome checks names in
+    let answer = list-outcome a f in
     refused-first b u c o v (subst (ByFirst b u (faults c)) (sym answer) (listing-asked b u d))
     (λ number at e.
     record {
       store = refl;
       work = sym (work-stays (workUsed b) number (u .work));
-      list = f .entries ∙ ap (λ (x : Outcome). listAfter x names (u .list)) (sym answer ∙ e);
+      list = f .entries ∙ ap (λ (x : Outcome). listAfter x (kindsUnder b d (u .store)) (u .list)) (sym answer ∙ e);
     })
 calls b u c o v (hands-out {c = x} {a = a} store part same h e) =
-    let answer : o ≡ readChecks b (x ∷ []) (u .store) = ap rowOutcome (e ∙ ap (rowAnswer b x) same) ∙ handed-outcome _ _ _ in
+    let answer = row-outcome b x (u .store) a (e ∙ ap (rowAnswer b x) same) in
     refused-first b u c o v (subst (ByFirst b u (faults c)) (sym answer) (read-asked b u (x ∷ []))) (λ number at _. read-only b u number)
 calls b u c o v (writes {a = a} {output = output} w) =
-    let answer = wrote-outcome w in
+    let answer = write-answer a w in
     refused-first b u c o v (subst (ByFirst b u (faults c)) (sym answer) (write-asked b u))
     (λ number at e.
-    record { store = refl; work = sym (work-stays (workUsed b) number (u .work)); list = write-keeps w (sym answer ∙ e) })
+    record { store = refl; work = sym (work-stays (workUsed b) number (u .work)); list = refused-keeps a w e })
 
 pub demand-one : DemandOne
 demand-one =

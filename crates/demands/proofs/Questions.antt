@@ -35,7 +35,7 @@ use Rattle.edits.specs.Edits.{Lent, asked}
 use Rattle.edits.proofs.Lists.{among-exact, whole-long, in-force-at, new-at}
 use Rattle.writing.specs.Write.{outputFits, storeChecks, writeChecks}
 use Rattle.lookups.specs.Checks.{askOccurs, openChecks, contentChecks, readChecks, listChecks}
-use Rattle.demands.specs.PublicCalls.{classify, change, listing, write}
+use Rattle.demands.specs.PublicCalls.{check, classify, change, listing, write}
 use Rattle.demands.specs.DemandOne.{Fault, damagedCatalogue, shortStore, shortWork, shortList, shortOutput, notWhole, twice, strayBit, outOfRange}
 use Rattle.demands.specs.DemandOne.{addedTwice, notInForce, tooManyAxioms, noRoom, unused, NotWhole, Wrong, refusal, readFaults, faults, ByFirst, none, here, later}
 
@@ -188,6 +188,10 @@ module _ (b : List ℕ) (u : Lent) where
         (λ _. more)
 
   -- ---- each call
+
+  pub check-asked : ByFirst b u (faults check) (checked b)
+  unfolding checked
+  check-asked = ask-catalogue accepted (λ _. none)
 
   pub classify-asked : ByFirst b u (faults classify) (classifyChecks b (length (u .store)) (length (u .work)))
   unfolding classifyChecks

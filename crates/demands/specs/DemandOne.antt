@@ -20,7 +20,7 @@ use Rattle.lookups.specs.Listings.{Lists}
 use Rattle.lookups.specs.Meaning.{KindUnder}
 use Rattle.lookups.specs.declared.kinds.Listed.the-variants.{Count}
 use Rattle.demands.specs.Sequences.{AfterCalls}
-use Rattle.demands.specs.PublicCalls.{PublicCall, classify, change, lookup, listing, row, write, Returns}
+use Rattle.demands.specs.PublicCalls.{PublicCall, check, classify, change, lookup, listing, row, write, Returns}
 
 -- "Refused first: a damaged catalogue, a buffer too short, a stray bit in a store, a concept number out of range, an axiom added twice or withdrawn when not
 -- in force, more than 4,096 axioms, a lookup of a concept that no axiom in force uses." And of a change (document 02, request Four): "a list over 64 axioms
@@ -86,6 +86,7 @@ abbrev pub readFaults : List ℕ → List Fault
 readFaults names = strayBit ∷ tooManyAxioms ∷ outOfRange names ∷ unused names ∷ []
 
 abbrev pub faults : PublicCall → List Fault
+faults check = damagedCatalogue ∷ []
 faults classify = damagedCatalogue ∷ shortStore ∷ shortWork ∷ []
 faults (change gone new) =
     damagedCatalogue ∷ shortStore ∷ shortWork ∷ shortList ∷ notWhole gone new ∷ twice (gone ++ new) ∷ strayBit ∷ tooManyAxioms

@@ -8,7 +8,7 @@ use mathlib.Core.List.{List, [], _∷_}
 use lib.ListN.{length}
 use Rattle.catalogue.specs.Outcome.{Outcome, accepted}
 use Rattle.catalogue.proofs.Outcomes.{never-both}
-use Rattle.catalogue.proofs.Refusals.{Small}
+use Rattle.catalogue.proofs.Refusals.{Small, small-checked}
 use Rattle.classification.proofs.Refusals.{small-classify}
 use Rattle.edits.specs.Edits.{lend}
 use Rattle.edits.proofs.Refusals.{small-edit}
@@ -18,7 +18,7 @@ use Rattle.exports.specs.declared.Reply.{Reply}
 use Rattle.exports.specs.declared.Reply.the-variants.{Accepted, Refused}
 use Rattle.exports.specs.Answers.{returned, Exported}
 use Rattle.exports.specs.Accepted.{ZeroExactly, ZeroIfAccepted}
-use Rattle.exports.proofs.Replies.{outcomeOf, classify-outcome, change-outcome, lookup-outcome, list-outcome, row-outcome, write-outcome}
+use Rattle.exports.proofs.Replies.{outcomeOf, check-outcome, classify-outcome, change-outcome, lookup-outcome, list-outcome, row-outcome, write-outcome}
 
 reply-zero : {o : Outcome} (reply : Reply) → outcomeOf reply ≡ o → Small o → (returned reply ≡ 0) ↔ (o ≡ accepted)
 reply-zero (Accepted first second third fourth) e s = (λ _. sym e, λ _. refl)
@@ -43,6 +43,7 @@ exported-zero {replyOf = replyOf} {answer = answer} s replies p =
 pub zero-if-accepted : ZeroIfAccepted
 zero-if-accepted =
     record {
+      check = λ b answer r answer' p. exported-zero (small-checked b) (check-outcome b) p;
       classify = λ b store work answer r store' work' answer' p. exported-zero (small-classify b (length store) (length work)) classify-outcome p;
       change = λ b gone new store work list answer r store' work' list' answer' p. exported-zero (small-edit b gone new (lend store work list)) change-outcome p;
       lookup = λ b c d store answer r answer' p. exported-zero (small-read b (c ∷ d ∷ []) store) (lookup-outcome b c d store) p;

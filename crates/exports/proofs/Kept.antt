@@ -21,10 +21,13 @@ use Rattle.lookups.specs.declared.kinds.Listed.the-variants.{Count}
 use Rattle.lookups.specs.Listings.{Lists}
 use Rattle.lookups.proofs.Unique.{refused-keeps}
 use Rattle.writing.specs.declared.Wrote.{Wrote}
-use Rattle.writing.specs.Write.{ByOutcome, wrote, stays}
+use Rattle.writing.specs.declared.Wrote.the-variants.{Length}
+use Rattle.writing.specs.Write.{ByOutcome}
+use Rattle.writing.proofs.Outcomes.{refused-keeps as write-keeps}
 use Rattle.exports.specs.declared.Reply.{Reply}
 use Rattle.exports.specs.declared.Reply.the-variants.{Accepted, Refused}
 use Rattle.exports.specs.Answers.{Given, Exported}
+use Rattle.exports.specs.Check.{CheckExported}
 use Rattle.exports.specs.Classify.{classifyReply, ClassifyExported}
 use Rattle.exports.specs.Change.{changeReply, ChangeExported}
 use Rattle.exports.specs.Lookups.{listReply, LookupExported, ListExported, RowExported}
@@ -52,6 +55,11 @@ exported-kept {replyOf = replyOf} {answer = answer} keeps p n =
           let x = p .long (omega arith) in
           given-kept (replyOf (x .call)) (x .gives) n (λ number at e. keeps (x .call) number at (x .calls) e)
     ]
+
+-- ---- check
+
+pub check-kept : (b answer : List ℕ) (r : ℕ) (a : List ℕ) → CheckExported b answer r a → (r ≡ 0 → ⊥) → a ≡ answer
+check-kept b answer r a p n = exported-kept (λ call number at x e. refl) p n .1
 
 -- ---- classify
 
@@ -105,8 +113,8 @@ row-kept b c store answer r a p n = exported-kept (λ call number at x e. refl) 
 
 by-outcome-kept : (b store output o : List ℕ) (outcome : Outcome) (call : Wrote) (number at : ℕ)
     → ByOutcome b store output outcome call o → writeReply call ≡ Refused number at → o ≡ output
-by-outcome-kept b store output o outcome call number at (wrote e) f = absurd (never-accepted f)
-by-outcome-kept b store output o outcome call number at stays f = refl
+by-outcome-kept b store output o outcome (Length long) number at p e = absurd (never-accepted e)
+by-outcome-kept b store output o outcome (Wrote.Refused n a) number at p e = write-keeps (Wrote.Refused n a) p refl
 
 pub write-kept : (b store output answer : List ℕ) (r : ℕ) (o a : List ℕ) → WriteExported b store output answer r o a → (r ≡ 0 → ⊥) → (o ≡ output) × (a ≡ answer)
 write-kept b store output answer r o a p n = exported-kept (by-outcome-kept b store output o _) p n

@@ -6,7 +6,8 @@ use mathlib.Core.List.{List, [], _∷_}
 use lib.Dec.{lit<}
 use lib.ListN.{length}
 use Rattle.catalogue.specs.Outcome.{Outcome}
-use Rattle.catalogue.proofs.Refusals.{Small}
+use Rattle.catalogue.specs.Checks.{checked}
+use Rattle.catalogue.proofs.Refusals.{Small, small-checked}
 use Rattle.classification.specs.declared.Classified.{Classified}
 use Rattle.classification.specs.Classified.{Classifies}
 use Rattle.classification.proofs.Refusals.{small-classify}
@@ -21,18 +22,23 @@ use Rattle.lookups.proofs.Refusals.{small-read, small-list}
 use Rattle.writing.specs.declared.Wrote.{Wrote}
 use Rattle.writing.specs.Write.{Writes}
 use Rattle.writing.proofs.Refusals.{small-write}
+use Rattle.sizing.specs.Sizes.{sizesOf}
 use Rattle.exports.specs.declared.Reply.{Reply}
 use Rattle.exports.specs.declared.Reply.the-variants.{Accepted, Refused}
 use Rattle.exports.specs.Answers.{returned}
+use Rattle.exports.specs.Check.{checkReply}
 use Rattle.exports.specs.Classify.{classifyReply}
 use Rattle.exports.specs.Change.{changeReply}
 use Rattle.exports.specs.Lookups.{lookupReply, listReply, rowReply}
 use Rattle.exports.specs.Write.{writeReply}
-use Rattle.exports.proofs.Replies.{outcomeOf, classify-outcome, change-outcome, lookup-outcome, list-outcome, row-outcome, write-outcome}
+use Rattle.exports.proofs.Replies.{outcomeOf, check-outcome, classify-outcome, change-outcome, lookup-outcome, list-outcome, row-outcome, write-outcome}
 
 reply-fits : {o : Outcome} (reply : Reply) → outcomeOf reply ≡ o → Small o → returned reply < 2 ^ 64
 reply-fits (Accepted first second third fourth) e s = lit< tt
 reply-fits (Refused number at) e s = omega (arith, s .small number at (sym e))
+
+pub check-fits : (b : List ℕ) → returned (checkReply (sizesOf b (checked b))) < 2 ^ 64
+check-fits b = reply-fits (checkReply (sizesOf b (checked b))) (check-outcome b (sizesOf b (checked b)) refl) (small-checked b)
 
 pub classify-fits : {b store work s w : List ℕ} (call : Classified) → Classifies b store work call s w → returned (classifyReply call) < 2 ^ 64
 classify-fits {b} {store} {work} call p = reply-fits (classifyReply call) (classify-outcome call p) (small-classify b (length store) (length work))

@@ -14,6 +14,7 @@ use Rattle.lookups.proofs.Unique.{lists-unique}
 use Rattle.writing.proofs.Unique.{by-outcome-unique}
 use Rattle.exports.specs.declared.Reply.{Reply}
 use Rattle.exports.specs.Answers.{returned, entries, Exported}
+use Rattle.exports.specs.Check.{CheckExported}
 use Rattle.exports.specs.Classify.{ClassifyExported}
 use Rattle.exports.specs.Change.{ChangeExported}
 use Rattle.exports.specs.Lookups.{LookupExported, ListExported, RowExported}
@@ -40,6 +41,11 @@ exported-unique {replyOf = replyOf} {answer = answer} unique p q =
             x .gives .writes ∙ ap (λ k. entries (replyOf k) answer) (u .0) ∙ sym (y .gives .writes),
           )
     ]
+
+pub check-unique : (b answer : List ℕ) (r r' : ℕ) (a a' : List ℕ) → CheckExported b answer r a → CheckExported b answer r' a' → (r ≡ r') × (a ≡ a')
+check-unique b answer r r' a a' p q =
+    let u = exported-unique (λ call call' x y. (x ∙ sym y, refl)) p q in
+    (u .0, u .2)
 
 classifies-one : (b store work : List ℕ) (s s' w w' : List ℕ) (call call' : Classified) → Classifies b store work call s w → Classifies b store work call' s' w'
     → (call ≡ call') × _≡_ {A = List ℕ × List ℕ} (s, w) (s', w')

@@ -5,10 +5,12 @@ use mathlib.Core.Logic.{_↔_}
 use mathlib.Core.List.{List, [], _∷_}
 use lib.ListN.{length}
 use Rattle.catalogue.specs.Outcome.{Outcome, accepted}
+use Rattle.catalogue.specs.Checks.{checked}
 use Rattle.classification.specs.Classified.{classifyChecks}
 use Rattle.edits.specs.Edits.{lend, asked}
 use Rattle.lookups.specs.Checks.{readChecks, listChecks}
 use Rattle.writing.specs.Write.{writeChecks}
+use Rattle.exports.specs.Check.{CheckExported}
 use Rattle.exports.specs.Classify.{ClassifyExported}
 use Rattle.exports.specs.Change.{ChangeExported}
 use Rattle.exports.specs.Lookups.{LookupExported, ListExported, RowExported}
@@ -20,6 +22,7 @@ ZeroExactly answer o r = (r ≡ 0) ↔ ((4 ≤ length answer) × (o ≡ accepted
 
 -- So of every call, whatever it is lent.
 pub record ZeroIfAccepted : Type 0 where
+  pub check : (b answer : List ℕ) (r : ℕ) (answer' : List ℕ) → CheckExported b answer r answer' → ZeroExactly answer (checked b) r
   pub classify : (b store work answer : List ℕ) (r : ℕ) (store' work' answer' : List ℕ) → ClassifyExported b store work answer r store' work' answer'
       → ZeroExactly answer (classifyChecks b (length store) (length work)) r
   pub change : (b gone new store work list answer : List ℕ) (r : ℕ) (store' work' list' answer' : List ℕ)

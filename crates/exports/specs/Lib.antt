@@ -1,4 +1,5 @@
 pub mod Answers
+pub mod Check
 pub mod Classify
 pub mod Change
 pub mod Lookups

@@ -3,6 +3,7 @@ ghost use mathlib.Core.Path.{_≡_};
 ghost use Prim.Native.Nat.{_≤_, _<_, _^_};
 ghost use lib.ListN.{length};
 ghost use Rattle.exports.specs.Answers.{returned, answered, Given};
+ghost use Rattle.exports.specs.Check.{checkReply, CheckExported};
 ghost use Rattle.exports.specs.Classify.{classifyReply, ClassifyExported};
 ghost use Rattle.exports.specs.Change.{changeReply, ChangeExported};
 ghost use Rattle.exports.specs.Lookups.{lookupReply, LookupExported, listReply, ListExported, rowReply, RowExported};
@@ -12,6 +13,7 @@ use edits::Changed;
 use lookups::Handed;
 use lookups::Listed;
 use lookups::Looked;
+use sizing::Sizes;
 use writing::Wrote;
 
 // How many entries an answer has at least.
@@ -48,6 +50,16 @@ fn give(answer: &mut [u64], reply: Reply) -> usize
             0
         }
         Reply::Refused(number, at) => number + 65536 * at,
+    }
+}
+
+// The reply of a check: bytes of a store, of a work space and of a list, and the most that write gives.
+fn check_reply(sizes: Sizes) -> Reply
+    ensures { λ r. ⌜ r ≡ checkReply sizes ⌝ }
+{
+    match sizes {
+        Sizes::Needed(store, work, list, output) => Reply::Accepted(store, work, list, output),
+        Sizes::Refused(number, at) => Reply::Refused(number, at),
     }
 }
 
@@ -115,6 +127,18 @@ fn write_reply(wrote: Wrote) -> Reply
         Wrote::Length(long) => Reply::Accepted(long, 0, 0, 0),
         Wrote::Refused(number, at) => Reply::Refused(number, at),
     }
+}
+
+// Check a catalogue, and say how many bytes its calls are to be lent.
+#[no_mangle]
+pub extern "C" fn girvotal_check(catalogue: &[u8], answer: &mut [u64]) -> usize
+    ensures { λ r. ⌜ CheckExported (now (catalogue .entry)) (now (answer .entry)) r (now (answer .exit)) ⌝ }
+{
+    if answer.len() < ENTRIES {
+        return SHORT_ANSWER;
+    }
+    let sizes = sizing::measure(catalogue);
+    give(answer, check_reply(sizes))
 }
 
 // Classify.

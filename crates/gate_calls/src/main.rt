@@ -1,6 +1,6 @@
 // Runs write, row_and_answer and the exported calls on the cases of its input, and writes what each answers and leaves in the buffers.
-// A case: the call (0 write, 1 row_and_answer; exported: 2 classify, 3 lookup, 4 list, 5 row, 6 write), two concept numbers, the entries of the answer that are
-// lent, the bytes lent of the store to be classified into and of the other buffer (work space, list or output; all of a buffer, where it is shorter), the
+// A case: the call (0 write, 1 row_and_answer; exported: 2 classify, 3 lookup, 4 list, 5 row, 6 write, 7 check), two concept numbers, the entries of the answer
+// that are lent, the bytes lent of the store to be classified into and of the other buffer (work space, list or output; all of a buffer, where it is shorter), the
 // lengths of the catalogue and of the store to be read, two bytes each, low byte first; then that catalogue and that store. The input has W1, W8, W9
 // and W10's catalogue of document 01, short buffers and answers, and refusals of each kind.
 ghost use Prim.Native.Nat.{_+_, _≤_, _<_};
@@ -61,7 +61,8 @@ fn reply(
         3 => exports::girvotal_lookup(b, c, d, read, answer),
         4 => exports::girvotal_list(b, d, read, other, answer),
         5 => exports::girvotal_row(b, c, read, answer),
-        _ => exports::girvotal_write(b, read, other, answer),
+        6 => exports::girvotal_write(b, read, other, answer),
+        _ => exports::girvotal_check(b, answer),
     }
 }
 

@@ -1,6 +1,7 @@
 pub mod Acceptance
 pub mod Answered
 pub mod Unique
+pub mod Outcomes
 pub mod Partitions
 pub mod DemandLookup
 pub mod DemandListing

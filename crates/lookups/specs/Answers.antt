@@ -11,6 +11,12 @@ use Rattle.lookups.specs.declared.pairs.Looked.the-variants.{Yes, No, Re
 
 -- `Yes`: every question is answered yes, and the store has C⊑D. `No`: every question is answered yes, and it has not.
 -- `Refused n r`: question n is answered no, and record r is at fault (0 where none is named).
+abbrev pub lookupOutcome : Looked → Outcome
+lookupOutcome Yes = accepted
+lookupOutcome No = accepted
+lookupOutcome (Refused number at) = refused number at
+
+-- The answer by the outcome of the questions.
 abbrev pub looked : Outcome → Bool → Looked
 looked accepted true = Yes
 looked accepted false = No

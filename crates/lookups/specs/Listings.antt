@@ -26,6 +26,11 @@ kindsUnder b d store = rising (atomicUnder b store d) (concepts b)
 
 -- `Count k`: every question is answered yes, and k concepts are listed.
 -- `Refused n r`: question n is answered no, and record r is at fault (0 where none is named).
+abbrev pub listOutcome : Listed → Outcome
+listOutcome (Count k) = accepted
+listOutcome (Refused number at) = refused number at
+
+-- The answer by the outcome of the questions.
 abbrev pub listed : Outcome → List ℕ → Listed
 listed accepted names = Count (length names)
 listed (refused number at) names = Refused number at

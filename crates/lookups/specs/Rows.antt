@@ -12,6 +12,11 @@ use Rattle.lookups.specs.declared.handing.Handed.the-variants.{Row, Refu
 
 -- `Row o w`: every question is answered yes, and the row stands from byte o of the store, w bytes long.
 -- `Refused n r`: question n is answered no, and record r is at fault (0 where none is named).
+abbrev pub rowOutcome : Handed → Outcome
+rowOutcome (Row offset size) = accepted
+rowOutcome (Refused number at) = refused number at
+
+-- The answer by the outcome of the questions.
 abbrev pub handed : Outcome → (offset size : ℕ) → Handed
 handed accepted offset size = Row offset size
 handed (refused number at) offset size = Refused number at

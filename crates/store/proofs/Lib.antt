@@ -1,6 +1,7 @@
 pub mod Rising
 pub mod Records
 pub mod Written
+pub mod FirstAxioms
 pub mod WrittenBytes
 pub mod Fresh
 pub mod Stored

@@ -24,7 +24,7 @@ module _ (b : List ℕ) (F : Axioms) (store : List ℕ) (catalogue : checked b �
   unfolding writeChecks outputFits
   asks =
       after-accepted b _ catalogue
-      ∙ asks-20 b store output (marked-fits b F store fresh) (fresh .spare) (marked-limit b F store fresh few)
+      ∙ asks-20 b store (length output) (marked-fits b F store fresh) (fresh .spare) (marked-limit b F store fresh few)
       ∙ ap (λ (G : Axioms). ask (leb (length (written b G)) (length output)) 20 0 accepted) (marked-axioms b F store fresh)
 
   outcome : {o : Outcome} {left : Wrote} {after : List ℕ} → writeChecks b store (length output) ≡ o → ByOutcome b store output o left after → Writes b store output left after

@@ -3,5 +3,6 @@ pub mod Tabling
 pub mod Whole
 pub mod Order
 pub mod Unique
+pub mod Outcomes
 pub mod FreshWritten
 pub mod Refusals

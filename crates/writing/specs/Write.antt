@@ -30,6 +30,11 @@ storeChecks b store long =
 unfoldable pub writeChecks : List ℕ → List ℕ → ℕ → Outcome
 writeChecks b store long = catalogueChecks b (storeChecks b store long)
 
+-- What an answer says of the questions.
+abbrev pub outcomeOf : Wrote → Outcome
+outcomeOf (Length k) = accepted
+outcomeOf (Refused number at) = refused number at
+
 -- What write answers and leaves by the outcome of its questions. `Refused n r`: question n is answered no, record r at fault, and every byte stays.
 -- `Length k`: the catalogue with the axioms in force stands at the start of the output, k bytes long, and the bytes beyond it stay.
 pub data ByOutcome (b store output : List ℕ) : Outcome → Wrote → List ℕ → Type 0 where

@@ -2,11 +2,10 @@
 
 use super::counting::{self, Scratch};
 use super::data::{self, Named};
-use bench::{calls, plain};
-use reference::catalogue::Catalogue;
-use reference::store::Layout;
+use super::timing::milliseconds;
+use bench::plain;
+use girvotal::Site;
 use std::path::Path;
-use std::time::Instant;
 
 /// Runs of each catalogue: as many as these milliseconds hold, in these limits.
 const MILLISECONDS: f64 = 5000.0;
@@ -25,30 +24,22 @@ const FILES: [&str; 9] = [
     "timing-dense",
 ];
 
-fn milliseconds(run: impl FnOnce()) -> f64 {
-    let start = Instant::now();
-    run();
-    1000.0 * start.elapsed().as_secs_f64()
-}
-
 /// Prints the least times of some runs, the library's and plain Rust's in turn.
 fn time_one(named: &Named) {
     let Named { name, bytes } = named;
-    let catalogue = Catalogue::read(bytes).expect("an accepted catalogue");
-    let layout = Layout::new(&catalogue);
-    let mut store = vec![165; layout.store_length()];
-    let mut work = vec![90; layout.work_length()];
+    let mut site = Site::classify(bytes.clone()).expect("an accepted catalogue");
+    let [concepts, roles] = [site.catalogue().concepts(), site.catalogue().roles()];
     let (expected, counts) = plain::classify(bytes);
-    let answer = calls::classify(bytes, &mut store, &mut work);
-    assert_eq!(answer, Ok(counts), "{name}: counts");
-    assert!(store == expected, "{name}: the same store");
+    let by_library = site.reclassify().expect("accepted");
+    assert_eq!(
+        [by_library.pairs, by_library.links],
+        [counts.pairs, counts.links],
+        "{name}: counts"
+    );
+    assert!(site.store() == expected, "{name}: the same store");
     let mut both = || {
-        let library = milliseconds(|| {
-            calls::classify(bytes, &mut store, &mut work).expect("accepted");
-        });
-        let other = milliseconds(|| {
-            std::hint::black_box(plain::classify(bytes));
-        });
+        let library = milliseconds(|| site.reclassify().expect("accepted"));
+        let other = milliseconds(|| plain::classify(bytes));
         (library, other)
     };
     let (mut library, mut other) = both();
@@ -59,9 +50,7 @@ fn time_one(named: &Named) {
         other = other.min(second);
     }
     println!(
-        "| {name} | {} | {} | {} | {} | {library:.3} | {other:.3} | {:.2} | {runs} |",
-        catalogue.concepts.len(),
-        catalogue.roles,
+        "| {name} | {concepts} | {roles} | {} | {} | {library:.3} | {other:.3} | {:.2} | {runs} |",
         counts.pairs,
         counts.links,
         library / other
@@ -89,10 +78,7 @@ pub fn time(files: &[&str]) {
 pub fn once(side: &str, file: &str) {
     let Named { bytes, .. } = data::at(Path::new(file));
     if side == "library" {
-        let layout = Layout::new(&Catalogue::read(&bytes).expect("an accepted catalogue"));
-        let mut store = vec![165; layout.store_length()];
-        let mut work = vec![90; layout.work_length()];
-        calls::classify(&bytes, &mut store, &mut work).expect("accepted");
+        std::hint::black_box(Site::classify(bytes).expect("an accepted catalogue"));
     } else {
         std::hint::black_box(plain::classify(&bytes));
     }

@@ -3,11 +3,11 @@
 
 use super::counting;
 use super::data::{self, Named};
+use super::timing::milliseconds;
 use bench::calls;
-use reference::catalogue::{Axiom, Catalogue, list};
+use girvotal::Site;
+use reference::catalogue::{Axiom, Catalogue};
 use reference::random::Random;
-use reference::store::Layout;
-use std::time::Instant;
 
 const FILES: [&str; 3] = ["timing-sparse", "timing-medium", "timing-dense"];
 
@@ -136,45 +136,21 @@ impl Axioms {
     }
 }
 
-/// Lent buffers.
-struct Buffers {
-    store: Vec<u8>,
-    work: Vec<u8>,
-    list: Vec<u8>,
+/// A catalogue, classified.
+fn classified(catalogue: &Catalogue) -> Site {
+    Site::classify(catalogue.bytes()).expect("an accepted catalogue")
 }
 
-impl Buffers {
-    fn new(catalogue: &Catalogue) -> Buffers {
-        let layout = Layout::new(catalogue);
-        Buffers {
-            store: vec![165; layout.store_length()],
-            work: vec![90; layout.work_length()],
-            list: vec![195; 2 * catalogue.concepts.len()],
-        }
-    }
-
-    /// Classifies; the milliseconds that it took.
-    fn classify(&mut self, catalogue: &[u8]) -> f64 {
-        let start = Instant::now();
-        calls::classify(catalogue, &mut self.store, &mut self.work).expect("accepted");
-        1000.0 * start.elapsed().as_secs_f64()
-    }
-
-    /// Makes the changes of an edit; the milliseconds that they took.
-    fn edit(&mut self, kind: &Kind, catalogue: &[u8], axioms: Axioms) -> f64 {
-        let Buffers {
-            store,
-            work,
-            list: touched,
-        } = self;
-        let timed = kind.timed.iter().map(|lists| {
-            let [out, into] = lists.map(|which| list(&axioms.named(which)));
-            let start = Instant::now();
-            calls::change(catalogue, &out, &into, store, work, touched).expect("accepted");
-            1000.0 * start.elapsed().as_secs_f64()
-        });
-        timed.sum()
-    }
+/// Makes the changes of an edit; the milliseconds that they took.
+fn edit(site: &mut Site, kind: &Kind, axioms: Axioms) -> f64 {
+    let timed = kind.timed.iter().map(|lists| {
+        let named = |which| axioms.named(which).into_iter().map(calls::axiom);
+        let [out, into] = lists.map(|which| named(which).collect::<Vec<_>>());
+        milliseconds(|| {
+            site.change(&out, &into).expect("accepted");
+        })
+    });
+    timed.sum()
 }
 
 /// The one in the middle.
@@ -193,20 +169,22 @@ struct Cost {
 /// Times a kind of edit on a catalogue, by so many axioms. Of an edit the least of
 /// some runs counts, and so of classify beside it.
 fn time_kind(name: &str, catalogue: &Catalogue, kind: &Kind, (count, runs): (usize, usize)) {
-    let bytes = catalogue.bytes();
-    let mut buffers = Buffers::new(catalogue);
     let chosen = Axioms::chosen(catalogue);
     let timed = chosen.iter().step_by(AXIOMS / count).map(|&axioms| {
-        let [before, after] = axioms.around(catalogue, kind).map(|known| known.bytes());
-        buffers.classify(&after);
-        let expected = buffers.store.clone();
-        let (mut classify, mut edit) = (f64::MAX, f64::MAX);
+        let [mut site, expected] = axioms
+            .around(catalogue, kind)
+            .map(|known| classified(&known));
+        let mut cost = Cost {
+            classify: f64::MAX,
+            edit: f64::MAX,
+        };
         for _ in 0..runs {
-            classify = classify.min(buffers.classify(&before));
-            edit = edit.min(buffers.edit(kind, &bytes, axioms));
-            assert!(buffers.store == expected, "{name}: {axioms:?}");
+            let classify = milliseconds(|| site.reclassify().expect("accepted"));
+            cost.classify = cost.classify.min(classify);
+            cost.edit = cost.edit.min(edit(&mut site, kind, axioms));
+            assert!(site.store() == expected.store(), "{name}: {axioms:?}");
         }
-        Cost { classify, edit }
+        cost
     });
     let costs: Vec<Cost> = timed.collect();
     print_row(name, kind, &costs);
@@ -262,9 +240,7 @@ pub fn once(kind: &str, name: &str, which: &str) {
     let (kind, catalogue) = (&KINDS[number(kind)], catalogue(name));
     let axioms = Axioms::chosen(&catalogue)[number(which)];
     let [before, _] = axioms.around(&catalogue, kind);
-    let mut buffers = Buffers::new(&catalogue);
-    buffers.classify(&before.bytes());
-    buffers.edit(kind, &catalogue.bytes(), axioms);
+    edit(&mut classified(&before), kind, axioms);
 }
 
 /// Instructions of edits, and of classify before the first of them.

@@ -5,7 +5,7 @@ use super::counting::{self, Scratch};
 use super::data::{self, Named};
 use super::timing;
 use bench::plain::reading as plain;
-use bench::{calls, exported};
+use girvotal::{Site, exported};
 use reference::catalogue::{Catalogue, MAX_AXIOMS};
 use reference::store::Layout;
 use std::hint::black_box;
@@ -91,12 +91,10 @@ fn make(side: Side, call: Call, catalogue: &[u8], store: &[u8], buffer: &mut [u8
 /// it, then the accepted calls.
 fn cases(bytes: &[u8]) -> Vec<Case> {
     let catalogue = Catalogue::read(bytes).expect("an accepted catalogue");
-    let layout = Layout::new(&catalogue);
-    let (n, width) = (catalogue.concepts.len(), layout.width());
-    let used = layout.store_length();
-    let mut store = vec![0; used];
-    let mut work = vec![0; layout.work_length()];
-    calls::classify(bytes, &mut store, &mut work).expect("an accepted catalogue");
+    let (n, width) = (catalogue.concepts.len(), Layout::new(&catalogue).width());
+    let site = Site::classify(bytes.to_vec()).expect("an accepted catalogue");
+    let store = site.store().to_vec();
+    let used = store.len();
     let (c, _) = catalogue.axioms[0];
     let lookup = |name, stops_at, change: &dyn Fn(&mut Vec<u8>)| {
         let mut store = store.clone();

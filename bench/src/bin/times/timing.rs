@@ -1,8 +1,16 @@
-//! Nanoseconds of short calls.
+//! Times of calls.
 
+use std::hint::black_box;
 use std::time::Instant;
 
-/// Nanoseconds of each call: the least average of many short rounds, all calls
+/// Milliseconds of one call.
+pub fn milliseconds<T>(call: impl FnOnce() -> T) -> f64 {
+    let start = Instant::now();
+    black_box(call());
+    1000.0 * start.elapsed().as_secs_f64()
+}
+
+/// Nanoseconds of each of some short calls: the least average of many short rounds, all calls
 /// in turn, since the machine may be busy at any moment.
 pub fn nanoseconds(calls: usize, mut make: impl FnMut(usize)) -> Vec<f64> {
     const ROUNDS: usize = 100;

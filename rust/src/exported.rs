@@ -10,6 +10,13 @@ pub const SHORT_ANSWER: usize = 65_535;
 
 mod raw {
     unsafe extern "C" {
+        pub fn girvotal_check(
+            catalogue: *const u8,
+            catalogue_length: usize,
+            answer: *mut u64,
+            answer_length: usize,
+        ) -> usize;
+
         pub fn girvotal_classify(
             catalogue: *const u8,
             catalogue_length: usize,
@@ -86,6 +93,20 @@ mod raw {
 
 // SAFETY of each call below: a pointer and the length after it are those of one
 // slice, and a slice that is written overlaps no other, being borrowed alone.
+
+/// Asks a catalogue questions 1 to 9: bytes of the store, of the work space, of a
+/// list, and the most that write gives.
+pub fn check(catalogue: &[u8], answer: &mut [u64]) -> usize {
+    // SAFETY: as said above.
+    unsafe {
+        raw::girvotal_check(
+            catalogue.as_ptr(),
+            catalogue.len(),
+            answer.as_mut_ptr(),
+            answer.len(),
+        )
+    }
+}
 
 /// Classifies the catalogue's axioms into the store: pairs, links, 0, 0.
 pub fn classify(catalogue: &[u8], store: &mut [u8], work: &mut [u8], answer: &mut [u64]) -> usize {

@@ -1,0 +1,260 @@
+//! The state file: names, the catalogue with the axioms in force, and its store (docs/FORMAT.md).
+
+use std::collections::HashSet;
+
+use girvotal::{Axiom, Catalogue, Changed, Concept, Counts, Record, Refusal, Site};
+
+use crate::text::{is_name, Compiled, Names};
+
+/// The first bytes of a state file.
+pub const MAGIC: [u8; 8] = *b"GIRVOTAL";
+
+/// The version of its format.
+pub const VERSION: u32 = 1;
+
+/// The bytes of its header, where the names begin.
+const HEADER: usize = 64;
+
+/// Where the checksum stands, and from where on bytes are summed.
+const CHECKSUM_AT: usize = 12;
+const SUMMED_FROM: usize = 16;
+
+/// A classified catalogue whose concepts and roles have names.
+#[derive(Debug)]
+pub struct State {
+    /// The names.
+    pub names: Names,
+    /// The catalogue with the axioms in force, and its store.
+    pub site: Site,
+}
+
+impl State {
+    /// A catalogue, classified.
+    pub fn classify(compiled: Compiled) -> Result<(State, Counts), Refusal> {
+        let Compiled { catalogue, names } = compiled;
+        let checked = Catalogue::new(&catalogue)?;
+        let sizes = checked.sizes();
+        let (mut store, mut work) = (vec![0; sizes.store], vec![0; sizes.work]);
+        let counts = girvotal::classify(&checked, &mut store, &mut work)?;
+        let site = Site::of(catalogue, store)?;
+        Ok((State { names, site }, counts))
+    }
+
+    /// Changes the axioms in force, in the catalogue too, and gives the kinds touched beside the
+    /// counts.
+    pub fn change(&mut self, withdrawn: &[Axiom], added: &[Axiom]) -> Result<Difference, Refusal> {
+        let Changed {
+            removed,
+            returned,
+            gained,
+            touched,
+        } = self.site.change(withdrawn, added)?;
+        let touched: Vec<Concept> = touched.iter().collect();
+        let catalogue = self.site.write()?;
+        self.site = Site::of(catalogue, self.site.store().to_vec())?;
+        let kinds = self.kinds();
+        let touched = kinds.into_iter().filter(|kind| touched.contains(kind));
+        Ok(Difference {
+            removed,
+            returned,
+            gained,
+            touched: touched.collect(),
+        })
+    }
+
+    /// The atomic concepts, rising.
+    pub fn kinds(&self) -> Vec<Concept> {
+        let numbered = (0..).map(Concept).zip(self.site.catalogue().records());
+        let atomic = numbered.filter(|(_, record)| *record == Record::Atomic);
+        atomic.map(|(concept, _)| concept).collect()
+    }
+
+    /// The name of a kind.
+    pub fn name(&self, kind: Concept) -> &str {
+        let name = self.names.concepts[usize::from(kind.0)].as_deref();
+        name.expect("kinds have names")
+    }
+
+    /// The file's bytes.
+    pub fn bytes(&self) -> Vec<u8> {
+        let names = name_bytes(&self.names);
+        let (n, m) = (self.names.concepts.len(), self.names.roles.len());
+        let catalogue = self.site.catalogue().bytes();
+        let mut bytes = vec![0; HEADER];
+        let mut places = Vec::new();
+        for section in [names.as_slice(), catalogue, self.site.store()] {
+            bytes.resize(bytes.len().next_multiple_of(8), 0);
+            places.extend([bytes.len(), section.len()]);
+            bytes.extend_from_slice(section);
+        }
+        bytes[..8].copy_from_slice(&MAGIC);
+        let fields = [VERSION as usize, 0, bytes.len()]
+            .into_iter()
+            .chain(places)
+            .chain([n, m]);
+        for (place, field) in bytes[8..HEADER].chunks_exact_mut(4).zip(fields) {
+            place.copy_from_slice(&number_bytes(field));
+        }
+        let sum = crc32(&bytes[SUMMED_FROM..]);
+        bytes[CHECKSUM_AT..SUMMED_FROM].copy_from_slice(&sum.to_le_bytes());
+        bytes
+    }
+
+    /// The state in a file's bytes, or what is wrong with them.
+    pub fn read(bytes: &[u8]) -> Result<State, String> {
+        if !bytes.starts_with(&MAGIC) {
+            return Err("it does not begin with `GIRVOTAL`".into());
+        }
+        let number = |at: usize| number_at(bytes, at).ok_or("its header is cut off");
+        let version = number(8)?;
+        if version != VERSION as usize {
+            return Err(format!(
+                "its version is {version}, and {VERSION} is read here"
+            ));
+        }
+        if number(16)? != bytes.len() {
+            return Err(format!("it has {} bytes, not {}", bytes.len(), number(16)?));
+        }
+        if number(CHECKSUM_AT)? != crc32(&bytes[SUMMED_FROM..]) as usize {
+            return Err("its checksum is wrong".into());
+        }
+        let section = |at: usize| {
+            let (from, length) = (number_at(bytes, at)?, number_at(bytes, at + 4)?);
+            bytes.get(from..from.checked_add(length)?)
+        };
+        let outside = "a section lies outside it";
+        let (n, m) = (number(44)?, number(48)?);
+        let names = read_names(section(20).ok_or(outside)?, n, m)?;
+        let catalogue = section(28).ok_or(outside)?;
+        let store = section(36).ok_or(outside)?;
+        let refused = |refusal: Refusal| format!("its catalogue or store is refused: {refusal}");
+        let site = Site::of(catalogue.to_vec(), store.to_vec()).map_err(refused)?;
+        if store.len() != site.catalogue().sizes().store {
+            return Err("its store is longer than its catalogue asks".into());
+        }
+        if !fit(&names, site.catalogue()) {
+            return Err("its names are not those of its catalogue".into());
+        }
+        let state = State { names, site };
+        if state.site.write().map_err(refused)? != catalogue {
+            return Err("its catalogue and its store have different axioms".into());
+        }
+        if state.bytes() != bytes {
+            return Err("its sections are not where they belong".into());
+        }
+        Ok(state)
+    }
+}
+
+/// What a change did, with the kinds that it touched.
+#[derive(Clone, Debug, PartialEq, Eq)]
+pub struct Difference {
+    /// Pairs and links removed.
+    pub removed: usize,
+    /// Of these, those that returned.
+    pub returned: usize,
+    /// Pairs and links gained.
+    pub gained: usize,
+    /// The kinds of which one was removed or gained, rising.
+    pub touched: Vec<Concept>,
+}
+
+/// A number of the file: four bytes, low byte first.
+fn number_bytes(number: usize) -> [u8; 4] {
+    let number = u32::try_from(number).expect("a file's lengths and counts are far below 2^32");
+    number.to_le_bytes()
+}
+
+/// The number at a place.
+fn number_at(bytes: &[u8], at: usize) -> Option<usize> {
+    let number = bytes.get(at..)?.first_chunk()?;
+    usize::try_from(u32::from_le_bytes(*number)).ok()
+}
+
+/// The names' section: where each begins and the last ends, then their bytes.
+fn name_bytes(names: &Names) -> Vec<u8> {
+    let concepts = names
+        .concepts
+        .iter()
+        .map(|name| name.as_deref().unwrap_or(""));
+    let all: Vec<&str> = concepts
+        .chain(names.roles.iter().map(String::as_str))
+        .collect();
+    let mut at = 4 * (all.len() + 1);
+    let mut bytes = Vec::from(number_bytes(at));
+    for name in &all {
+        at += name.len();
+        bytes.extend(number_bytes(at));
+    }
+    bytes.extend(all.concat().into_bytes());
+    bytes
+}
+
+/// The names of so many concepts and roles.
+fn read_names(section: &[u8], n: usize, m: usize) -> Result<Names, String> {
+    let name = |i: usize| {
+        let (from, to) = (number_at(section, 4 * i)?, number_at(section, 4 * i + 4)?);
+        String::from_utf8(section.get(from..to)?.to_vec()).ok()
+    };
+    let many = |from: usize, count: usize| {
+        let within = count <= section.len() && from <= section.len();
+        let names = (0..if within { count } else { 0 }).map(|i| name(from + i));
+        let names: Option<Vec<String>> = names.collect();
+        names.filter(|_| within).ok_or("its names can't be read")
+    };
+    let named = |name: String| (!name.is_empty()).then_some(name);
+    Ok(Names {
+        concepts: many(0, n)?.into_iter().map(named).collect(),
+        roles: many(n, m)?,
+    })
+}
+
+/// Whether every kind and role has a name, no two the same.
+fn fit(names: &Names, catalogue: Catalogue<'_>) -> bool {
+    let mut seen = HashSet::new();
+    let mut good = |name: &String| is_name(name) && seen.insert(name.clone());
+    let mut concepts = names.concepts.iter().zip(catalogue.records());
+    names.concepts.len() == catalogue.concepts()
+        && names.roles.len() == catalogue.roles()
+        && names.roles.iter().all(&mut good)
+        && concepts.all(|(name, record)| match name {
+            Some(name) => good(name),
+            None => record != Record::Atomic,
+        })
+}
+
+/// The CRC-32 of zlib, PNG and Ethernet.
+fn crc32(bytes: &[u8]) -> u32 {
+    const TABLE: [u32; 256] = {
+        let mut table = [0; 256];
+        let mut i = 0;
+        while i < 256 {
+            let mut value = i as u32;
+            let mut bit = 0;
+            while bit < 8 {
+                let low = value & 1;
+                value >>= 1;
+                if low == 1 {
+                    value ^= 0xEDB8_8320;
+                }
+                bit += 1;
+            }
+            table[i] = value;
+            i += 1;
+        }
+        table
+    };
+    let step = |sum: u32, byte: &u8| TABLE[(sum as u8 ^ byte) as usize] ^ (sum >> 8);
+    !bytes.iter().fold(u32::MAX, step)
+}
+
+#[cfg(test)]
+mod tests {
+    use super::*;
+
+    /// The check value that descriptions of CRC-32 give.
+    #[test]
+    fn crc32_of_the_digits() {
+        assert_eq!(crc32(b"123456789"), 0xCBF4_3926);
+    }
+}

@@ -1,0 +1,40 @@
+//! The text language: catalogues as UTF-8 text, one statement a line.
+//!
+//! ```text
+//! line = ["kind" NAME {"," NAME} | "role" NAME {"," NAME} | "let" NAME "=" expr
+//!      | ROLE ["then" ROLE] "<" ROLE | expr ("<" | "=") expr] ["#" ..]
+//! expr = term {"and" term}    term = KIND | LET | "any" | ROLE "some" term | "(" expr ")"
+//! ```
+//!
+//! A name is a letter and then letters, digits, `-` and `_`; or any characters but control ones, in
+//! quotes, with `\"` and `\\`. Kinds, roles and lets share one set of names, each declared once and
+//! before its use. `and` groups to the left, and `some` binds tighter.
+//!
+//! Records are numbered as first met, parts first. Composites are equal if they are the same with
+//! every `let` written out; one that is written out is the lowest record equal to it, and `let`
+//! makes a new record. `=` is two axioms, and an axiom said twice counts once.
+//!
+//! - [`compile()`]: text to catalogue; [`print()`]: catalogue to text
+//! - [`expression()`], [`axioms`]: what stands on a command line, read by the same parser
+//! - [`candidates`], [`extended`]: the records of an expression, found or added
+
+mod compile;
+mod draft;
+mod expression;
+mod faults;
+mod lexer;
+mod names;
+mod nearest;
+mod parser;
+mod print;
+mod resolve;
+mod scope;
+mod statement;
+
+pub use compile::{compile, Compiled};
+pub use expression::Expression;
+pub use faults::{Failure, Fault};
+pub use names::{is_name, quoted, Names};
+pub use nearest::nearest;
+pub use print::print;
+pub use resolve::{axioms, candidates, expression, extended, in_force, written, Extended};

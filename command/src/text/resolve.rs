@@ -1,0 +1,139 @@
+//! Expressions and axioms of a command line, and their records.
+
+use girvotal::{Axiom, Catalogue, Concept};
+
+use super::draft::Draft;
+use super::expression::{Expression, Node};
+use super::faults::{Failure, Fault, Faults, Problem};
+use super::lexer::comment;
+use super::names::{quoted, Names, Spelling};
+use super::parser::{Ended, Parser};
+use super::scope::{Meaning, Scope};
+
+/// Reads a line by the names of a catalogue.
+fn parsed<T>(
+    source: &str,
+    scope: &Scope,
+    parse: impl FnOnce(&mut Parser<'_>) -> Result<T, Ended>,
+) -> Result<T, Vec<Fault>> {
+    let mut faults = Faults::default();
+    if let Some(column) = comment(source) {
+        faults.push(
+            1,
+            column,
+            Problem::Said("an argument has no comment".into()),
+        );
+        return Err(faults.told(scope));
+    }
+    let mut parser = Parser::new(1, source, scope, &mut faults);
+    let result = parse(&mut parser);
+    if result.is_err() {
+        parser.rest(false);
+    }
+    match result {
+        Ok(result) if faults.is_empty() => Ok(result),
+        _ => Err(faults.told(scope)),
+    }
+}
+
+/// The expression that an argument says. One that would be faulty, and is the whole name of a
+/// concept without its quotes, is that name; one that could be either is a fault.
+pub fn expression(
+    source: &str,
+    names: &Names,
+    catalogue: Catalogue<'_>,
+) -> Result<Expression, Vec<Fault>> {
+    let scope = Scope::of(names, catalogue);
+    let result = parsed(source, &scope, |parser| parser.expression_alone());
+    let Some(Meaning::Kind(concept) | Meaning::Let(concept)) =
+        scope.get(source).map(|declared| declared.meaning)
+    else {
+        return result;
+    };
+    match result {
+        Ok(other) if other.named() != Some(concept) => Err(vec![Fault {
+            line: 1,
+            column: 1,
+            message: format!(
+                "`{source}` is a name and an expression too: quote it, `{}`, or put it in \
+                 parentheses",
+                quoted(source)
+            ),
+        }]),
+        _ => Ok(Expression::new(vec![Node::Named(concept)])),
+    }
+}
+
+/// The axioms that an argument says, by their sides: one of `A < B`, two of `A = B`. Another
+/// statement is a fault.
+pub fn axioms(
+    source: &str,
+    names: &Names,
+    catalogue: Catalogue<'_>,
+) -> Result<Vec<(Expression, Expression)>, Vec<Fault>> {
+    let scope = Scope::of(names, catalogue);
+    parsed(source, &scope, |parser| parser.axioms_alone())
+}
+
+/// The text of an expression over this catalogue.
+pub fn written(expression: &Expression, names: &Names, catalogue: Catalogue<'_>) -> String {
+    expression.written(&Spelling::new(names, catalogue))
+}
+
+/// The records equal to an expression over this catalogue, rising.
+pub fn candidates(expression: &Expression, catalogue: Catalogue<'_>) -> Vec<Concept> {
+    let draft = Draft::of(catalogue);
+    let Some(found) = draft.find(expression) else {
+        return vec![];
+    };
+    let equal = |&concept: &Concept| draft.lowest(concept) == draft.lowest(found);
+    let all = (0..).map(Concept).take(draft.concepts());
+    all.filter(equal).collect()
+}
+
+/// The axiom of this catalogue that has these sides: the one that is said, or else the first whose
+/// sides are equal to them.
+pub fn in_force(
+    (left, right): &(Expression, Expression),
+    catalogue: Catalogue<'_>,
+) -> Option<Axiom> {
+    let draft = Draft::of(catalogue);
+    let (left, right) = (draft.find(left)?, draft.find(right)?);
+    let axiom = draft.in_force(Axiom { left, right });
+    draft.axioms.contains(&axiom).then_some(axiom)
+}
+
+/// A catalogue that has the records of some axioms, and these axioms.
+#[derive(Clone, Debug, PartialEq, Eq)]
+pub struct Extended {
+    /// The catalogue's bytes: the records, role axioms and axioms as before, and new composites at
+    /// the end.
+    pub catalogue: Vec<u8>,
+    /// The names as before; new composites have none.
+    pub names: Names,
+    /// The axioms by number, in order. Where an equal one is in the catalogue it is that one.
+    pub axioms: Vec<Axiom>,
+}
+
+/// Adds to a catalogue the composites that some axioms over it need and that it lacks, or says
+/// which limit that passes. The axioms themselves are not added.
+pub fn extended(
+    catalogue: Catalogue<'_>,
+    names: &Names,
+    axioms: &[(Expression, Expression)],
+) -> Result<Extended, Failure> {
+    let mut draft = Draft::of(catalogue);
+    let mut numbered = vec![];
+    for (left, right) in axioms {
+        let left = draft.find_or_add(left);
+        let right = draft.find_or_add(right);
+        numbered.push(draft.in_force(Axiom { left, right }));
+    }
+    let mut names = names.clone();
+    names.concepts.resize(draft.concepts(), None);
+    Ok(Extended {
+        catalogue: draft.build()?,
+        names,
+        axioms: numbered,
+    })
+}

@@ -1,0 +1,157 @@
+//! Axioms withdrawn and added.
+
+use std::ffi::OsStr;
+
+use girvotal::{Axiom, Question, Refusal};
+
+use super::{failed, in_argument, listed, state};
+use crate::arguments::Given;
+use crate::failure::Failure;
+use crate::files::{self, Target};
+use crate::json::Json;
+use crate::not_utf8;
+use crate::state::{Difference, State};
+use crate::text::{self, Compiled, Expression, Extended};
+use crate::{Report, Streams};
+
+/// An axiom as it is given: its left and its right side.
+type Side = (Expression, Expression);
+
+/// `change STATE [--out 'A < B'].. [--in 'A < B']..`
+pub fn change(given: &Given, streams: &mut Streams<'_>) -> Result<Report, Failure> {
+    let (out, new) = (given.values("--out"), given.values("--in"));
+    changed(given.operand(0), out.collect(), new.collect(), streams)
+}
+
+/// `add STATE 'A < B'`
+pub fn add(given: &Given, streams: &mut Streams<'_>) -> Result<Report, Failure> {
+    changed(given.operand(0), vec![], vec![given.operand(1)], streams)
+}
+
+/// `withdraw STATE 'A < B'`
+pub fn withdraw(given: &Given, streams: &mut Streams<'_>) -> Result<Report, Failure> {
+    changed(given.operand(0), vec![given.operand(1)], vec![], streams)
+}
+
+/// A state that is to be changed: no other run changes it before the target is saved or dropped.
+pub fn locked(path: &OsStr, streams: &mut Streams<'_>) -> Result<(Target, State), Failure> {
+    if files::is_stream(path) {
+        return Err(Failure::Usage(
+            "a state that is changed is a file, not `-`".into(),
+        ));
+    }
+    let target = Target::of_file(path, streams)?;
+    let bytes = files::read(path, streams)?;
+    Ok((target, state(path, &bytes)?))
+}
+
+fn changed(
+    path: &OsStr,
+    out: Vec<&OsStr>,
+    new: Vec<&OsStr>,
+    streams: &mut Streams<'_>,
+) -> Result<Report, Failure> {
+    let (target, mut state) = locked(path, streams)?;
+    let (out, new) = (sides(&out, &state)?, sides(&new, &state)?);
+    let withdrawn = in_force(&out, &state)?;
+    let added = recorded(&new, &mut state)?;
+    let difference = state
+        .change(&withdrawn, &added)
+        .map_err(|refusal| blamed(refusal, &withdrawn, &added, &out, &new, &state))?;
+    target.save(&state.bytes(), streams)?;
+    Ok(told(&difference, &state))
+}
+
+/// The axioms of some arguments.
+fn sides(arguments: &[&OsStr], state: &State) -> Result<Vec<Side>, Failure> {
+    let mut all = Vec::new();
+    for argument in arguments {
+        let source = argument.to_str().ok_or_else(|| not_utf8(argument))?;
+        let axioms = text::axioms(source, &state.names, state.site.catalogue());
+        all.extend(axioms.map_err(|faults| in_argument(source, faults))?);
+    }
+    Ok(all)
+}
+
+/// The axioms to withdraw, which must be in force.
+fn in_force(sides: &[Side], state: &State) -> Result<Vec<Axiom>, Failure> {
+    let find = |side| {
+        let question = Question::NotInForce;
+        let refusal = Refusal {
+            question,
+            record: 0,
+        };
+        let missing = || Failure::refused(refusal, &written(side, state));
+        text::in_force(side, state.site.catalogue()).ok_or_else(missing)
+    };
+    sides.iter().map(find).collect()
+}
+
+/// The axioms to add, in a catalogue that has all their composites: where one is new, that
+/// catalogue is classified, with the axioms that are in force.
+fn recorded(sides: &[Side], state: &mut State) -> Result<Vec<Axiom>, Failure> {
+    let before = state.site.catalogue().bytes();
+    let Extended {
+        catalogue,
+        names,
+        axioms,
+    } = text::extended(state.site.catalogue(), &state.names, sides)
+        .map_err(|failure| failed(String::new(), failure))?;
+    if catalogue != before {
+        *state = State::classify(Compiled { catalogue, names })?.0;
+    }
+    Ok(axioms)
+}
+
+/// A refused change, with the axiom at fault.
+fn blamed(
+    refusal: Refusal,
+    withdrawn: &[Axiom],
+    added: &[Axiom],
+    out: &[Side],
+    new: &[Side],
+    state: &State,
+) -> Failure {
+    let axioms: Vec<&Axiom> = withdrawn.iter().chain(added).collect();
+    let sides: Vec<&Side> = out.iter().chain(new).collect();
+    let in_force: Vec<Axiom> = state.site.catalogue().axioms().collect();
+    let faulty = |i: &usize| match refusal.question {
+        Question::Twice => axioms[..*i].contains(&axioms[*i]),
+        Question::InForce => *i >= withdrawn.len() && in_force.contains(axioms[*i]),
+        _ => false,
+    };
+    let fault = (0..axioms.len()).find(faulty);
+    let detail = fault.map(|i| written(sides[i], state)).unwrap_or_default();
+    Failure::refused(refusal, &detail)
+}
+
+/// An axiom as text.
+fn written((left, right): &Side, state: &State) -> String {
+    let side = |side| text::written(side, &state.names, state.site.catalogue());
+    format!("`{} < {}`", side(left), side(right))
+}
+
+/// The counts of a change and the kinds touched.
+fn told(difference: &Difference, state: &State) -> Report {
+    let Difference {
+        removed,
+        returned,
+        gained,
+        touched,
+    } = difference;
+    let names: Vec<&str> = touched.iter().map(|&kind| state.name(kind)).collect();
+    let quoted: Vec<String> = names.iter().map(|name| text::quoted(name)).collect();
+    let kinds = match quoted.is_empty() {
+        true => "no kind".into(),
+        false => quoted.join(", "),
+    };
+    let text =
+        format!("removed {removed}, returned {returned}, gained {gained}\ntouched: {kinds}\n");
+    let json = Json::Object(vec![
+        ("removed", (*removed).into()),
+        ("returned", (*returned).into()),
+        ("gained", (*gained).into()),
+        ("touched", listed(&names)),
+    ]);
+    Report::done(text, json)
+}

@@ -1,0 +1,124 @@
+//! Texts, catalogues and states, made of each other.
+
+use girvotal::{Catalogue, Record};
+
+use super::{count, read_any, read_state, read_text, shown};
+use crate::arguments::Given;
+use crate::failure::Failure;
+use crate::files;
+use crate::json::Json;
+use crate::state::State;
+use crate::text::{self, Compiled};
+use crate::{Report, Streams};
+
+/// How much a catalogue has.
+struct Amounts {
+    kinds: usize,
+    roles: usize,
+    concepts: usize,
+    axioms: usize,
+}
+
+impl Amounts {
+    fn of(catalogue: Catalogue<'_>) -> Amounts {
+        let atomic = catalogue
+            .records()
+            .filter(|record| *record == Record::Atomic);
+        Amounts {
+            kinds: atomic.count(),
+            roles: catalogue.roles(),
+            concepts: catalogue.concepts(),
+            axioms: catalogue.axioms().len(),
+        }
+    }
+
+    fn text(&self) -> String {
+        let parts = [
+            count(self.kinds, "kind"),
+            count(self.roles, "role"),
+            count(self.concepts, "concept"),
+            count(self.axioms, "axiom"),
+        ];
+        parts.join(", ")
+    }
+
+    fn fields(&self) -> Vec<(&'static str, Json)> {
+        vec![
+            ("kinds", self.kinds.into()),
+            ("roles", self.roles.into()),
+            ("concepts", self.concepts.into()),
+            ("axioms", self.axioms.into()),
+        ]
+    }
+}
+
+/// What is told where a catalogue has been checked or made.
+fn told(catalogue: &[u8]) -> Result<Report, Failure> {
+    let amounts = Amounts::of(Catalogue::new(catalogue)?);
+    let text = format!("{}\n", amounts.text());
+    Ok(Report::done(text, Json::Object(amounts.fields())))
+}
+
+/// Makes the file of `-o`, which must not be the one that is read. Where it is standard output,
+/// nothing else goes there.
+fn made(
+    given: &Given,
+    bytes: &[u8],
+    mut report: Report,
+    streams: &mut Streams<'_>,
+) -> Result<Report, Failure> {
+    let source = given.operand(0);
+    for path in given.values("-o") {
+        if files::same(source, path) {
+            let path = shown(path);
+            return Err(Failure::Usage(format!(
+                "{path} would be replaced by its own output"
+            )));
+        }
+        files::make(path, bytes, streams)?;
+        if files::is_stream(path) {
+            report = Report::done(String::new(), Json::Nothing);
+        }
+    }
+    Ok(report)
+}
+
+/// `check TEXT`
+pub fn check(given: &Given, streams: &mut Streams<'_>) -> Result<Report, Failure> {
+    told(&read_text(given.operand(0), streams)?.catalogue)
+}
+
+/// `compile TEXT -o CATALOGUE`
+pub fn compile(given: &Given, streams: &mut Streams<'_>) -> Result<Report, Failure> {
+    let Compiled { catalogue, .. } = read_text(given.operand(0), streams)?;
+    made(given, &catalogue, told(&catalogue)?, streams)
+}
+
+/// `text FILE [--exact]`
+pub fn text(given: &Given, streams: &mut Streams<'_>) -> Result<Report, Failure> {
+    let Compiled { catalogue, names } = read_any(given.operand(0), streams)?;
+    let text = text::print(Catalogue::new(&catalogue)?, &names, given.has("--exact"));
+    let json = Json::Object(vec![("text", text.as_str().into())]);
+    Ok(Report::done(text, json))
+}
+
+/// `classify FILE -o STATE`
+pub fn classify(given: &Given, streams: &mut Streams<'_>) -> Result<Report, Failure> {
+    let (state, counts) = State::classify(read_any(given.operand(0), streams)?)?;
+    let amounts = Amounts::of(state.site.catalogue());
+    let (pairs, links) = (count(counts.pairs, "pair"), count(counts.links, "link"));
+    let text = format!("{}: {pairs}, {links}\n", amounts.text());
+    let mut fields = amounts.fields();
+    fields.extend([
+        ("pairs", counts.pairs.into()),
+        ("links", counts.links.into()),
+    ]);
+    let report = Report::done(text, Json::Object(fields));
+    made(given, &state.bytes(), report, streams)
+}
+
+/// `write STATE -o CATALOGUE`
+pub fn write(given: &Given, streams: &mut Streams<'_>) -> Result<Report, Failure> {
+    let catalogue = read_state(given.operand(0), streams)?.site.write()?;
+    made(given, &catalogue, told(&catalogue)?, streams)
+}

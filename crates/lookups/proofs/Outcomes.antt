@@ -1,0 +1,39 @@
+-- What an answer of lookup, listing and row says of its questions.
+use Prim.Native.Nat.{ℕ}
+use mathlib.Core.Path.{_≡_, refl, ap, _∙_}
+use mathlib.Core.Bool.{Bool, true, false}
+use mathlib.Core.List.{List, [], _∷_}
+use lib.ListN.{length}
+use Rattle.catalogue.specs.Outcome.{Outcome, accepted, refused}
+use Rattle.lookups.specs.Checks.{readChecks, listChecks}
+use Rattle.lookups.specs.Answers.{lookupOutcome, looked, lookedUp}
+use Rattle.lookups.specs.Listings.{listOutcome, listed, kindsUnder, Lists}
+use Rattle.lookups.specs.Rows.{rowOutcome, handed, rowAnswer}
+use Rattle.lookups.specs.declared.pairs.Looked.{Looked}
+use Rattle.lookups.specs.declared.kinds.Listed.{Listed}
+use Rattle.lookups.specs.declared.handing.Handed.{Handed}
+
+looked-outcome : (o : Outcome) (has : Bool) → lookupOutcome (looked o has) ≡ o
+looked-outcome accepted true = refl
+looked-outcome accepted false = refl
+looked-outcome (refused number at) has = refl
+
+pub lookup-outcome : (b : List ℕ) (c d : ℕ) (store : List ℕ) (a : Looked) → a ≡ lookedUp b c d store → lookupOutcome a ≡ readChecks b (c ∷ d ∷ []) store
+unfolding lookedUp
+lookup-outcome b c d store a e = ap lookupOutcome e ∙ looked-outcome _ _
+
+listed-outcome : (o : Outcome) (names : List ℕ) → listOutcome (listed o names) ≡ o
+listed-outcome accepted names = refl
+listed-outcome (refused number at) names = refl
+
+pub list-outcome : {b : List ℕ} {d : ℕ} {store list list' : List ℕ} (a : Listed) → Lists b d store list a list'
+    → listOutcome a ≡ listChecks b (d ∷ []) store (length list)
+list-outcome {b} {d} {store} a p = ap listOutcome (p .answer) ∙ listed-outcome _ (kindsUnder b d store)
+
+handed-outcome : (o : Outcome) (offset size : ℕ) → rowOutcome (handed o offset size) ≡ o
+handed-outcome accepted offset size = refl
+handed-outcome (refused number at) offset size = refl
+
+pub row-outcome : (b : List ℕ) (c : ℕ) (store : List ℕ) (a : Handed) → a ≡ rowAnswer b c store → rowOutcome a ≡ readChecks b (c ∷ []) store
+unfolding rowAnswer
+row-outcome b c store a e = ap rowOutcome e ∙ handed-outcome _ _ _
