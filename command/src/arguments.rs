@@ -32,6 +32,42 @@ pub const COMMON: [Flag; 2] = [
     },
 ];
 
+/// What is taken without a verb or with any.
+pub const OPTIONS: [Flag; 3] = [
+    Flag {
+        name: "--help",
+        value: "",
+        help: "print help; after a verb, its own",
+    },
+    Flag {
+        name: "--version",
+        value: "",
+        help: "print the version",
+    },
+    Flag {
+        name: "--json",
+        value: "",
+        help: "with any verb: print one JSON object, errors too",
+    },
+];
+
+/// What the command is for.
+pub const DESCRIPTION: &str =
+    "Says which kinds of a catalogue lie under which, and keeps that in step while axioms\n\
+     are added and withdrawn.";
+
+/// What `-` stands for.
+pub const STREAMS: &str = "A file `-` is standard input or output.";
+
+/// The exit statuses.
+pub const STATUSES: [(u8, &str); 5] = [
+    (0, "done or yes"),
+    (1, "no"),
+    (2, "refused"),
+    (3, "wrong text or usage"),
+    (4, "file trouble"),
+];
+
 /// What is asked for.
 pub enum Request {
     /// A text: help, or the version.
@@ -128,34 +164,19 @@ fn version() -> String {
 
 /// The help for the whole command.
 fn overview() -> String {
-    let mut text = String::from(
-        "Usage: girvotal VERB ..\n\n\
-         Says which kinds of a catalogue lie under which, and keeps that in step while axioms\n\
-         are added and withdrawn. docs/COMMAND.md has the text's grammar.\n\nVerbs:\n",
+    let mut text = format!(
+        "Usage: girvotal VERB ..\n\n{DESCRIPTION}\n\
+         docs/COMMAND.md has the text's grammar.\n\nVerbs:\n"
     );
     for verb in VERBS {
         text += &format!("  {:<10}{}\n", verb.name, verb.summary);
     }
-    text += "\nOptions:\n";
-    text += &flags(&[
-        Flag {
-            name: "--help",
-            value: "",
-            help: "print this; after a verb, its own help",
-        },
-        Flag {
-            name: "--version",
-            value: "",
-            help: "print the version",
-        },
-        Flag {
-            name: "--json",
-            value: "",
-            help: "with any verb: print one JSON object, errors too",
-        },
-    ]);
-    text += "\nA file `-` is standard input or output.\n\
-             Exit: 0 done or yes, 1 no, 2 refused, 3 wrong text or usage, 4 file trouble.\n";
+    let statuses = STATUSES.map(|(status, meaning)| format!("{status} {meaning}"));
+    text += &format!(
+        "\nOptions:\n{}\n{STREAMS}\nExit: {}.\n",
+        flags(&OPTIONS),
+        statuses.join(", ")
+    );
     text
 }
 
@@ -189,6 +210,11 @@ impl Verb {
         ))
     }
 
+    /// Whether it can't do without `-o`: the usage has in brackets what may be left out.
+    fn needs_output(&self) -> bool {
+        self.flags.iter().any(|flag| flag.name == "-o") && !self.usage.contains("[-o ")
+    }
+
     /// The arguments after its name.
     fn given(&'static self, arguments: &[OsString]) -> Result<Given, Failure> {
         let mut given = Given::default();
@@ -206,10 +232,9 @@ impl Verb {
             let names = self.operands.join(" ");
             return Err(self.misused(&format!("{} takes {names}", self.name), ""));
         }
-        match self.flags.iter().find(|flag| flag.name == "-o") {
-            Some(_) if given.values("-o").count() != 1 => {
-                Err(self.misused("one `-o` is needed", ""))
-            }
+        match (given.values("-o").count(), self.needs_output()) {
+            (0 | 2.., true) => Err(self.misused("one `-o` is needed", "")),
+            (2.., false) => Err(self.misused("one `-o` is enough", "")),
             _ => Ok(given),
         }
     }

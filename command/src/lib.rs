@@ -4,15 +4,18 @@
 //! - [`state`]: the state file
 //! - [`files`]: files read, and made so that a broken-off run leaves the old or the new one
 //! - [`verbs`]: the table of verbs, and what each does
+//! - [`manual`], [`completion`]: the manual page and bash's completion, made from that table
 //! - [`run`]: one run of the command
 
 #![warn(missing_docs)]
 #![forbid(unsafe_code)]
 
 pub mod arguments;
+pub mod completion;
 pub mod failure;
 pub mod files;
 pub mod json;
+pub mod manual;
 pub mod state;
 pub mod text;
 pub mod verbs;

@@ -196,7 +196,11 @@ fn usage() {
         ),
         (
             "text lake.gv --exakt",
-            "text has no option `--exakt`; usage: girvotal text FILE [--exact]; did you mean `--exact`?",
+            "text has no option `--exakt`; usage: girvotal text FILE [--exact | --owl]; did you mean `--exact`?",
+        ),
+        (
+            "text lake.gv --exact --owl",
+            "only one of `--exact` and `--owl` can be given",
         ),
         ("add - 'tap < water'", "a state that is changed is a file, not `-`"),
         (

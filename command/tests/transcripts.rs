@@ -3,6 +3,7 @@
 
 mod support;
 
+use girvotal_command::manual::EXAMPLES;
 use support::Folder;
 
 /// A line that is run, and what it must print.
@@ -32,14 +33,19 @@ fn examples(document: &str) -> Vec<Example> {
     examples
 }
 
-/// Runs all examples that call the command; at least so many.
-fn run_all(path: &str, least: usize) {
+/// Runs all examples of a document of the repository.
+fn run_document(path: &str, least: usize) {
     let root = std::path::Path::new(env!("CARGO_MANIFEST_DIR")).join("..");
     let document = std::fs::read_to_string(root.join(path)).expect("a document");
+    run_all(path, &document, least);
+}
+
+/// Runs all examples that call the command; at least so many.
+fn run_all(path: &str, document: &str, least: usize) {
     let folder = Folder::new();
     let text = String::from_utf8(folder.read("lake.gv")).expect("UTF-8");
     folder.write("wrong.gv", text.replace("has some tap", "has some tapp"));
-    let mut examples = examples(&document);
+    let mut examples = examples(document);
     examples.retain(|example| example.line.starts_with("girvotal"));
     assert!(
         examples.len() >= least,
@@ -54,10 +60,24 @@ fn run_all(path: &str, least: usize) {
 
 #[test]
 fn readme() {
-    run_all("README.md", 5);
+    run_document("README.md", 5);
 }
 
 #[test]
 fn command() {
-    run_all("docs/COMMAND.md", 8);
+    run_document("docs/COMMAND.md", 8);
+}
+
+#[test]
+fn manual() {
+    let indented: String = EXAMPLES
+        .lines()
+        .map(|line| format!("    {line}\n"))
+        .collect();
+    run_all("the manual page", &indented, 5);
+}
+
+#[test]
+fn campsite() {
+    run_document("docs/CAMPSITE.md", 5);
 }

@@ -10,9 +10,12 @@ const ENTRIES: usize = 4;
 /// Returned where it has fewer.
 const SHORT_ANSWER: usize = 65_535;
 
-/// Runs a call, unless the answer is too short: 0 and the entries where it is
+/// Answers by a call, unless the answer is too short: 0 and the entries where it is
 /// accepted, number + 65,536 · record where it is refused.
-fn exported(answer: &mut [u64], call: impl FnOnce() -> Result<[usize; ENTRIES], Refusal>) -> usize {
+pub fn answered(
+    answer: &mut [u64],
+    call: impl FnOnce() -> Result<[usize; ENTRIES], Refusal>,
+) -> usize {
     if answer.len() < ENTRIES {
         return SHORT_ANSWER;
     }
@@ -26,7 +29,7 @@ fn exported(answer: &mut [u64], call: impl FnOnce() -> Result<[usize; ENTRIES], 
 }
 
 /// A change's counts in their order.
-pub(crate) fn entries(changed: Changed) -> [usize; ENTRIES] {
+pub fn entries(changed: Changed) -> [usize; ENTRIES] {
     let Changed {
         removed,
         returned,
@@ -36,20 +39,23 @@ pub(crate) fn entries(changed: Changed) -> [usize; ENTRIES] {
     [removed, returned, gained, touched]
 }
 
+/// A catalogue's sizes in their order.
+pub fn size_entries(sizes: Sizes) -> [usize; ENTRIES] {
+    let Sizes {
+        store,
+        work,
+        list,
+        output,
+    } = sizes;
+    [store, work, list, output]
+}
+
 pub fn check(catalogue: &[u8], answer: &mut [u64]) -> usize {
-    exported(answer, || {
-        let Sizes {
-            store,
-            work,
-            list,
-            output,
-        } = calls::sizes(catalogue)?;
-        Ok([store, work, list, output])
-    })
+    answered(answer, || calls::sizes(catalogue).map(size_entries))
 }
 
 pub fn classify(catalogue: &[u8], store: &mut [u8], work: &mut [u8], answer: &mut [u64]) -> usize {
-    exported(answer, || {
+    answered(answer, || {
         let counts = calls::classify(catalogue, store, work)?;
         Ok([counts.pairs, counts.links, 0, 0])
     })
@@ -64,13 +70,13 @@ pub fn change(
     touched: &mut [u8],
     answer: &mut [u64],
 ) -> usize {
-    exported(answer, || {
+    answered(answer, || {
         calls::change(catalogue, withdrawn, added, store, work, touched).map(entries)
     })
 }
 
 pub fn lookup(catalogue: &[u8], c: usize, d: usize, store: &[u8], answer: &mut [u64]) -> usize {
-    exported(answer, || {
+    answered(answer, || {
         let yes = calls::lookup(catalogue, c, d, store)?;
         Ok([usize::from(yes), 0, 0, 0])
     })
@@ -83,20 +89,20 @@ pub fn list(
     list: &mut [u8],
     answer: &mut [u64],
 ) -> usize {
-    exported(answer, || {
+    answered(answer, || {
         Ok([calls::listing(catalogue, d, store, list)?, 0, 0, 0])
     })
 }
 
 pub fn row(catalogue: &[u8], c: usize, store: &[u8], answer: &mut [u64]) -> usize {
-    exported(answer, || {
+    answered(answer, || {
         let row = calls::row(catalogue, c, store)?;
         Ok([row.offset, row.bytes.len(), 0, 0])
     })
 }
 
 pub fn write(catalogue: &[u8], store: &[u8], output: &mut [u8], answer: &mut [u64]) -> usize {
-    exported(answer, || {
+    answered(answer, || {
         Ok([calls::write(catalogue, store, output)?, 0, 0, 0])
     })
 }

@@ -1,12 +1,12 @@
-//! Runs every step of every vector file in the folder that the environment
-//! variable GIRVOTAL_VECTORS names, and compares the answers, the buffers and
-//! the listing program's text. Without the variable it only says so.
+//! Runs every step of every vector file, and compares the answers, the buffers
+//! and the listing program's text. `support/vectors.rs` says which folder is read.
 
 #[path = "support/vectors.rs"]
 mod vectors;
 
 use reference::listing;
-use vectors::{Calls, Vector, run_folder};
+use std::path::Path;
+use vectors::{Calls, Vector, files, run_folder};
 
 struct Reference;
 
@@ -20,4 +20,16 @@ fn every_step_of_every_file() {
         }
         vector.run(&Reference, |_| {})
     });
+}
+
+#[test]
+#[should_panic(expected = "the vectors' folder")]
+fn a_missing_folder_fails() {
+    files(Path::new("no such folder"));
+}
+
+#[test]
+#[should_panic(expected = "no vectors in the folder")]
+fn a_folder_without_vectors_fails() {
+    files(&Path::new(env!("CARGO_MANIFEST_DIR")).join("src"));
 }

@@ -14,7 +14,7 @@
 //! every `let` written out; one that is written out is the lowest record equal to it, and `let`
 //! makes a new record. `=` is two axioms, and an axiom said twice counts once.
 //!
-//! - [`compile()`]: text to catalogue; [`print()`]: catalogue to text
+//! - [`compile()`]: text to catalogue; [`print()`]: catalogue to text; [`owl()`]: catalogue to OWL
 //! - [`expression()`], [`axioms`]: what stands on a command line, read by the same parser
 //! - [`candidates`], [`extended`]: the records of an expression, found or added
 
@@ -25,6 +25,7 @@ mod faults;
 mod lexer;
 mod names;
 mod nearest;
+mod owl;
 mod parser;
 mod print;
 mod resolve;
@@ -36,5 +37,7 @@ pub use expression::Expression;
 pub use faults::{Failure, Fault};
 pub use names::{is_name, quoted, Names};
 pub use nearest::nearest;
+pub use owl::owl;
+pub(crate) use print::parts;
 pub use print::print;
 pub use resolve::{axioms, candidates, expression, extended, in_force, written, Extended};

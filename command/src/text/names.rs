@@ -85,8 +85,14 @@ pub fn quoted(name: &str) -> String {
     if is_word(name) && !RESERVED.contains(&name) {
         name.to_owned()
     } else {
-        format!("\"{}\"", name.replace('\\', "\\\\").replace('"', "\\\""))
+        in_quotes(name)
     }
+}
+
+/// A string in quotes, with `\"` and `\\`, as texts and OWL have it.
+pub(super) fn in_quotes(string: &str) -> String {
+    let escaped = string.replace('\\', "\\\\").replace('"', "\\\"");
+    format!("\"{escaped}\"")
 }
 
 /// How a text writes each concept and role of a catalogue by name, made-up names included.

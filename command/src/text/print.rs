@@ -71,7 +71,7 @@ fn lines(catalogue: Catalogue<'_>, records: &[Record], exact: bool) -> Vec<(Axio
 }
 
 /// The concepts that a record is made of.
-fn parts(record: Record) -> impl Iterator<Item = usize> {
+pub(crate) fn parts(record: Record) -> impl Iterator<Item = usize> {
     let parts = match record {
         Record::Atomic | Record::Top => [None, None],
         Record::Conjunction(left, right) => [Some(left), Some(right)],

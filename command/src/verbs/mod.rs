@@ -4,6 +4,7 @@ mod answers;
 mod changes;
 mod explain;
 mod texts;
+mod tree;
 mod update;
 
 use std::ffi::OsStr;
@@ -65,14 +66,21 @@ pub const VERBS: &[Verb] = &[
     },
     Verb {
         name: "text",
-        usage: "FILE [--exact]",
+        usage: "FILE [--exact | --owl]",
         operands: &["FILE"],
-        flags: &[Flag {
-            name: "--exact",
-            value: "",
-            help: "one statement for each record, so that it compiles back to the same bytes",
-        }],
-        summary: "print a catalogue as text",
+        flags: &[
+            Flag {
+                name: "--exact",
+                value: "",
+                help: "one statement for each record, so that it compiles back to the same bytes",
+            },
+            Flag {
+                name: "--owl",
+                value: "",
+                help: "OWL 2 in functional-style syntax, a class for each record",
+            },
+        ],
+        summary: "print a catalogue as text or as OWL",
         help: "Prints the text of a catalogue, of a state (the axioms in force) or of another\n\
                text. Parts that several concepts share stand once, by `let`.",
         run: texts::text,
@@ -133,6 +141,31 @@ pub const VERBS: &[Verb] = &[
         help: "Prints every kind that A, a kind or an expression, lies under, one a line. A\n\
                kind lies under itself.",
         run: answers::above,
+    },
+    Verb {
+        name: "tree",
+        usage: "STATE [--dot | --html] [-o FILE]",
+        operands: &["STATE"],
+        flags: &[
+            Flag {
+                name: "--dot",
+                value: "",
+                help: "a graph for Graphviz instead",
+            },
+            Flag {
+                name: "--html",
+                value: "",
+                help: "a page for a browser instead: one file, with a filter",
+            },
+            OUTPUT,
+        ],
+        summary: "draw the kinds as a tree",
+        help:
+            "Prints all kinds as a tree: equal ones in one entry, `a = b`, and under each entry\n\
+               those directly below, by name. An entry with several above stands under each;\n\
+               what lies below it stands at the first place alone, the others have ` ^`. Kinds\n\
+               in no axiom in force come last.",
+        run: tree::tree,
     },
     Verb {
         name: "change",
@@ -306,11 +339,14 @@ fn lines(names: &[&str]) -> String {
     names.iter().map(|name| format!("{name}\n")).collect()
 }
 
-/// `1 axiom`, `2 axioms`.
+/// `1 axiom`, `2 axioms`, `2 entries`.
 fn count(number: usize, what: &str) -> String {
     match number {
         1 => format!("1 {what}"),
-        _ => format!("{number} {what}s"),
+        _ => match what.strip_suffix('y') {
+            Some(stem) => format!("{number} {stem}ies"),
+            None => format!("{number} {what}s"),
+        },
     }
 }
 

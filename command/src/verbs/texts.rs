@@ -61,7 +61,7 @@ fn told(catalogue: &[u8]) -> Result<Report, Failure> {
 
 /// Makes the file of `-o`, which must not be the one that is read. Where it is standard output,
 /// nothing else goes there.
-fn made(
+pub fn made(
     given: &Given,
     bytes: &[u8],
     mut report: Report,
@@ -94,10 +94,20 @@ pub fn compile(given: &Given, streams: &mut Streams<'_>) -> Result<Report, Failu
     made(given, &catalogue, told(&catalogue)?, streams)
 }
 
-/// `text FILE [--exact]`
+/// `text FILE [--exact | --owl]`
 pub fn text(given: &Given, streams: &mut Streams<'_>) -> Result<Report, Failure> {
+    let (exact, owl) = (given.has("--exact"), given.has("--owl"));
+    if exact && owl {
+        return Err(Failure::Usage(
+            "only one of `--exact` and `--owl` can be given".into(),
+        ));
+    }
     let Compiled { catalogue, names } = read_any(given.operand(0), streams)?;
-    let text = text::print(Catalogue::new(&catalogue)?, &names, given.has("--exact"));
+    let catalogue = Catalogue::new(&catalogue)?;
+    let text = match owl {
+        true => text::owl(catalogue, &names),
+        false => text::print(catalogue, &names, exact),
+    };
     let json = Json::Object(vec![("text", text.as_str().into())]);
     Ok(Report::done(text, json))
 }

@@ -4,6 +4,7 @@
 
 use std::ffi::OsString;
 use std::fs;
+use std::io::Write;
 use std::path::{Path, PathBuf};
 use std::process::{Command, Output, Stdio};
 use std::sync::atomic::{AtomicUsize, Ordering};
@@ -14,6 +15,11 @@ pub struct Folder {
 }
 
 static FOLDERS: AtomicUsize = AtomicUsize::new(0);
+
+/// Says a line on standard error, also where a test passes.
+pub fn say(line: &str) {
+    writeln!(std::io::stderr(), "{line}").expect("standard error");
+}
 
 /// The repository's folder of catalogues.
 pub fn data() -> PathBuf {

@@ -2,10 +2,13 @@
 
 mod arguments;
 mod faults;
+mod fuzzing;
 mod limits;
 mod mutations;
 mod printing;
 mod sources;
+#[path = "../support/mod.rs"]
+mod support;
 
 use girvotal::{Catalogue, Record};
 use girvotal_command::text::{compile, Compiled, Failure};

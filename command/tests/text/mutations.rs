@@ -1,12 +1,13 @@
 //! Changed texts: never a panic, faults inside the text, and what is accepted is a catalogue.
 
 use crate::sources;
-use girvotal::Catalogue;
+use crate::support::say;
+use girvotal::{Catalogue, Question};
 use girvotal_command::text::{compile, print, Failure, Fault, Names};
 use reference::random::Random;
 
 /// What is put into a text.
-const PIECES: [&str; 30] = [
+pub const PIECES: [&str; 30] = [
     "kind ",
     "role ",
     "let ",
@@ -63,55 +64,98 @@ fn changed(random: &mut Random, text: &mut Vec<u8>) {
     }
 }
 
-/// Whether a fault's line and column are inside the text, or one past a line's end.
-fn inside(fault: &Fault, text: &str) -> bool {
-    let line = text.split('\n').nth(fault.line.wrapping_sub(1));
-    let most = 1 + line.map_or(0, |line| line.chars().count());
-    line.is_some() && (1..=most).contains(&fault.column) && !fault.message.is_empty()
+/// Whether a fault's line and column are inside a text whose lines have so many characters, or one
+/// past a line's end.
+fn inside(fault: &Fault, lines: &[usize]) -> bool {
+    let line = lines.get(fault.line.wrapping_sub(1));
+    line.is_some_and(|line| (1..=line + 1).contains(&fault.column)) && !fault.message.is_empty()
 }
 
-fn check(text: &[u8]) -> bool {
-    let lossy = String::from_utf8_lossy(text);
-    let lossy = lossy.strip_prefix('\u{feff}').unwrap_or(&lossy);
-    match compile(text) {
-        Ok(compiled) => {
-            let catalogue = Catalogue::new(&compiled.catalogue).expect("an accepted catalogue");
-            let exact = print(catalogue, &compiled.names, true);
-            let again = compile(exact.as_bytes()).expect("a right text");
-            assert_eq!(again.catalogue, compiled.catalogue, "{lossy}");
-            true
-        }
-        Err(Failure::Faults(faults)) => {
-            assert!(!faults.is_empty(), "{lossy}");
-            for fault in &faults {
-                assert!(inside(fault, lossy), "{fault} in\n{lossy}");
+/// How many texts were tried, and what came of them.
+#[derive(Default)]
+pub struct Tally {
+    pub right: usize,
+    pub wrong: usize,
+    /// Right, but over the limits of a catalogue.
+    pub refused: usize,
+}
+
+impl Tally {
+    /// Compiles a text: its catalogue passes questions 1 to 9 and comes back from its exact text, or
+    /// its faults are inside it, in order.
+    pub fn check(&mut self, text: &[u8]) {
+        let lossy = String::from_utf8_lossy(text);
+        let lossy = lossy.strip_prefix('\u{feff}').unwrap_or(&lossy);
+        match compile(text) {
+            Ok(compiled) => {
+                let catalogue = Catalogue::new(&compiled.catalogue).expect("an accepted catalogue");
+                let exact = print(catalogue, &compiled.names, true);
+                let again = compile(exact.as_bytes()).expect("a right text");
+                assert_eq!(again.catalogue, compiled.catalogue, "{lossy}");
+                self.right += 1;
             }
-            let places = faults.iter().map(|fault| (fault.line, fault.column));
-            assert!(places.is_sorted(), "{faults:?}");
-            false
+            Err(Failure::Faults(faults)) => {
+                assert!(!faults.is_empty(), "{lossy}");
+                let lines = lossy.split('\n').map(|line| line.chars().count());
+                let lines: Vec<usize> = lines.collect();
+                for fault in &faults {
+                    assert!(inside(fault, &lines), "{fault} in\n{lossy}");
+                }
+                let places = faults.iter().map(|fault| (fault.line, fault.column));
+                assert!(places.is_sorted(), "{faults:?}");
+                self.wrong += 1;
+            }
+            Err(Failure::Refused { refusal, detail }) => {
+                assert_eq!(refusal.question, Question::Counts, "{lossy}");
+                assert!(!detail.is_empty(), "{lossy}");
+                self.refused += 1;
+            }
         }
-        Err(Failure::Refused { .. }) => panic!("a small text is over no limit:\n{lossy}"),
     }
+
+    pub fn all(&self) -> usize {
+        self.right + self.wrong + self.refused
+    }
+
+    pub fn say(&self, what: &str) {
+        let Tally {
+            right,
+            wrong,
+            refused,
+        } = self;
+        let all = self.all();
+        say(&format!(
+            "texts, {what}: {all}, {right} right, {wrong} wrong, {refused} over the limits"
+        ));
+    }
+}
+
+/// Right texts to begin with: those of data/, and a printed one.
+pub fn texts() -> Vec<Vec<u8>> {
+    let doubles = sources::file("doubles-0.bin");
+    let doubles = Catalogue::new(&doubles).expect("accepted");
+    let printed = print(doubles, &Names::numbered(doubles), true).into_bytes();
+    let texts = sources::texts();
+    let mut texts: Vec<_> = texts.iter().map(|name| sources::file(name)).collect();
+    texts.push(printed);
+    texts
 }
 
 #[test]
 fn changed_texts() {
-    let doubles = sources::file("doubles-0.bin");
-    let doubles = Catalogue::new(&doubles).expect("accepted");
-    let printed = print(doubles, &Names::numbered(doubles), true).into_bytes();
-    let (mut right, mut wrong) = (0, 0);
-    for text in [sources::file("lake.gv"), sources::file("w1.gv"), printed] {
+    let mut tally = Tally::default();
+    for text in texts() {
         for seed in 0..2_000 {
             let random = &mut Random::new(seed);
             let mut text = text.clone();
             for _ in 0..=random.below(4) {
                 changed(random, &mut text);
             }
-            match check(&text) {
-                true => right += 1,
-                false => wrong += 1,
-            }
+            tally.check(&text);
         }
     }
+    tally.say("changed");
+    let Tally { right, wrong, .. } = tally;
     assert!(right > 300 && wrong > 3_000, "{right} right, {wrong} wrong");
+    assert_eq!(tally.refused, 0, "a small text is over no limit");
 }

@@ -19,16 +19,27 @@ pub fn file(name: &str) -> Vec<u8> {
     fs::read(data().join(name)).expect("a file of data/")
 }
 
+/// The names of the folder's files with an ending.
+fn files(ending: &str) -> Vec<String> {
+    let entries = fs::read_dir(data()).expect("the folder data/");
+    let names = entries.map(|entry| entry.expect("an entry").file_name());
+    let names = names.filter_map(|name| name.into_string().ok());
+    let mut names: Vec<String> = names.filter(|name| name.ends_with(ending)).collect();
+    names.sort();
+    names
+}
+
+/// The names of the folder's texts.
+pub fn texts() -> Vec<String> {
+    let texts = files(".gv");
+    assert!(texts.len() >= 2);
+    texts
+}
+
 /// Every catalogue of the folder and every built-in one, with its name.
 pub fn catalogues() -> Vec<(String, Vec<u8>)> {
-    let mut all: Vec<_> = fs::read_dir(data())
-        .expect("the folder data/")
-        .map(|entry| entry.expect("an entry").file_name())
-        .filter_map(|name| name.into_string().ok())
-        .filter(|name| name.ends_with(".bin"))
-        .map(|name| (name.clone(), file(&name)))
-        .collect();
-    all.sort();
+    let files = files(".bin").into_iter();
+    let mut all: Vec<_> = files.map(|name| (name.clone(), file(&name))).collect();
     assert!(all.len() >= 14);
     for (name, example) in EXAMPLES {
         all.push(((*name).to_owned(), example().bytes()));

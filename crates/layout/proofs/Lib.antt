@@ -1,6 +1,7 @@
 pub mod Sizes
 pub mod Places
 pub mod BlockRows
+pub mod GroupRows
 pub mod StoreSizes
 pub mod StoreRows
 pub mod Offsets

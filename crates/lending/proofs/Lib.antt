@@ -1,2 +1,3 @@
 pub mod Zeros
 pub mod Copies
+pub mod Limits

@@ -2,7 +2,7 @@
 use catalogue::Concept;
 ghost use Rattle.lending.specs.Zero.{Zero};
 
-// A row, the rows of one partition, those for each role, a table; a bit for each three roles.
+// A row, the rows of one partition, those for each role, a table, a row with its index; a bit for each three roles.
 const ROW: usize = Concept::MAX / 8;
 
 const OWN: usize = (1 + Concept::ROLES) * ROW;
@@ -10,6 +10,8 @@ const OWN: usize = (1 + Concept::ROLES) * ROW;
 const GIVEN: usize = Concept::ROLES * OWN;
 
 const TABLE: usize = Concept::MAX * ROW;
+
+const INDEX: usize = (3 + (Concept::MAX + Concept::MAX)) * ROW;
 
 const TRIPLES: usize = Concept::ROLES * Concept::ROLES * Concept::ROLES / 8;
 
@@ -46,4 +48,11 @@ pub fn table() -> [u8; TABLE]
     ensures { λ r. ⌜ Zero 32768 r ⌝ }
 {
     [0u8; TABLE]
+}
+
+// A row of what occurs, with room for its index.
+pub fn index() -> [u8; INDEX]
+    ensures { λ r. ⌜ Zero 65728 r ⌝ }
+{
+    [0u8; INDEX]
 }

@@ -1,7 +1,13 @@
 // The questions of the calls that read a store, in their order.
+ghost use Prim.Native.Nat.{_<_};
 ghost use mathlib.Core.Path.{_≡_};
+ghost use mathlib.Core.Bool.{_&&_};
 ghost use mathlib.Core.List.{[], _∷_};
+ghost use lib.Dec.{eqb};
 ghost use lib.ListN.{length};
+ghost use Rattle.catalogue.specs.Header.{concepts};
+ghost use Rattle.catalogue.specs.Records.{kind};
+ghost use Rattle.catalogue.specs.WellFormed.{WellFormed};
 ghost use Rattle.catalogue.specs.Outcome.{accepted};
 ghost use Rattle.catalogue.specs.Verdicts.{outcomeOf};
 ghost use Rattle.rules.specs.Occurrence.{occurs};
@@ -21,11 +27,24 @@ fn both_marked(b: &[u8], store: &[u8], row: &mut [u8], c: usize, d: usize) -> bo
     rows::has(row, c) & rows::has(row, d)
 }
 
-// 19: do both concepts occur by the axioms in force?
+// Are both records atomic?
+fn both_atomic(b: &[u8], c: usize, d: usize) -> bool
+    requires { ⌜ WellFormed (now b) × (c < concepts (now b)) × (d < concepts (now b)) ⌝ }
+    ensures { λ r. ⌜ r ≡ (eqb (kind (now (b .entry)) c) 0 && eqb (kind (now (b .entry)) d) 0) ⌝ }
+{
+    let first = Concept::at(b, c);
+    let second = Concept::at(b, d);
+    (first.kind == Concept::ATOMIC) & (second.kind == Concept::ATOMIC)
+}
+
+// 19: do both concepts occur by the axioms in force? Atomic ones do, whatever is in force, so that nothing is marked for them.
 fn both_occur(b: &[u8], c: usize, d: usize, store: &[u8]) -> bool
-    requires { ⌜ Clear (now b) (now store) ⌝ }
+    requires { ⌜ Clear (now b) (now store) × (c < concepts (now b)) × (d < concepts (now b)) ⌝ }
     ensures { λ r. ⌜ r ≡ every (occurs (now (b .entry)) (inForce (now (b .entry)) (now (store .entry)))) (c ∷ d ∷ []) ⌝ }
 {
+    if both_atomic(b, c, d) {
+        return true;
+    }
     let s = Shape::of(b);
     let w = s.width;
     let mut marks = [0u8; Concept::MAX / 8];

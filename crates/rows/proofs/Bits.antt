@@ -1,6 +1,6 @@
 -- Laws of rows: the bits after a bit is set or cleared, after two rows are joined, and of a whole whose part was written; a row by its bits.
 use mathlib.Core.Path.{_≡_, refl, sym, ap, ap₂, _∙_, subst}
-use mathlib.Core.Bool.{Bool, false, not, _&&_, _||_, or-comm, and-comm}
+use mathlib.Core.Bool.{Bool, true, false, not, _&&_, _||_, or-comm, and-comm, false≢true}
 use mathlib.Core.List.{List, [], _∷_}
 use Prim.Native.Nat.{ℕ, zero, suc, _+_, _-_, _*_, _/_, _%_, _^_, _≤_, _<_}
 use native.Mathlib.Nat.{not-suc-le-zero, le-of-suc-le-suc, one-mul, mod-eq-of-lt}
@@ -31,6 +31,10 @@ unfolding bit
 bit-past row i h =
     let past : length row ≤ i / 8 = omega arith in
     ap (λ (x : ℕ). byteBit x (i % 8)) (List·getD-eq-default row 0 past) ∙ byteBit-zero (i % 8)
+
+-- A bit that is set lies within its row.
+pub set-below : (row : List ℕ) (i : ℕ) → bit row i ≡ true → i < 8 * length row
+set-below row i h = elim (decLt i (8 * length row)) [ yes l ↦ l | no g ↦ absurd (false≢true (sym (bit-past row i (omega arith)) ∙ h)) ]
 
 -- ---- after one bit is set or cleared
 

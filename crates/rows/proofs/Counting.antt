@@ -12,7 +12,7 @@ use lib.Dec.{eqb}
 use lib.Count.{ones, ones-step}
 use Rattle.rows.specs.Bits.{byteBit, bit, countBelow, someBelow, anyBit}
 use Rattle.rows.proofs.ByteBits.{byteBit-half, byteBit-low, half-lt, below-two, split-last}
-use Rattle.rows.proofs.Bits.{bit-at, bit-past}
+use Rattle.rows.proofs.Bits.{bit-at, bit-past, set-below}
 
 -- ---- counts
 
@@ -174,11 +174,7 @@ none-below test k j h l = go (test j) refl
 
 pub any-set : (row : List ℕ) (i : ℕ) → bit row i ≡ true → anyBit row ≡ true
 unfolding anyBit
-any-set row i h =
-    elim (decLt i (8 * length row)) [
-      | yes l ↦ some-at (bit row) (8 * length row) i l h
-      | no g ↦ absurd (false≢true (sym (bit-past row i (omega arith)) ∙ h))
-    ]
+any-set row i h = some-at (bit row) (8 * length row) i (set-below row i h) h
 
 pub any-clear : (row : List ℕ) → ((i : ℕ) → bit row i ≡ false) → anyBit row ≡ false
 unfolding anyBit

@@ -238,24 +238,44 @@ impl Vector {
     }
 }
 
-/// Runs every file of the folder that the environment variable
-/// GIRVOTAL_VECTORS names; the steps in all. Without the variable it says so.
-pub fn run_folder(run: impl Fn(&Vector) -> Tally) -> Tally {
-    let mut total = Tally::new();
-    let Some(folder) = std::env::var_os("GIRVOTAL_VECTORS") else {
-        println!("skipped: GIRVOTAL_VECTORS is not set");
-        return total;
-    };
-    let entries = std::fs::read_dir(&folder).expect("a folder of vectors");
-    let mut files: Vec<PathBuf> = entries
-        .map(|entry| entry.expect("an entry").path())
-        .collect();
-    files.retain(|path| {
-        path.extension()
-            .is_some_and(|extension| extension == "json")
-    });
+/// The calls that the files make.
+const CALLS: [&str; 6] = ["classify", "change", "lookup", "listing", "row", "write"];
+
+/// How many files `data/vectors` has.
+const FILES: usize = 72;
+
+/// The environment variable that may name another folder.
+const NAMED: &str = "GIRVOTAL_VECTORS";
+
+/// The folder that the environment variable GIRVOTAL_VECTORS names; without it, `data/vectors` of
+/// the repository.
+fn folder() -> PathBuf {
+    match std::env::var_os(NAMED) {
+        Some(folder) => PathBuf::from(folder),
+        None => Path::new(env!("CARGO_MANIFEST_DIR")).join("../data/vectors"),
+    }
+}
+
+/// The files of a folder, by name. There must be some.
+pub fn files(folder: &Path) -> Vec<PathBuf> {
+    let shown = folder.display();
+    let entries = std::fs::read_dir(folder);
+    let entries = entries.unwrap_or_else(|error| panic!("the vectors' folder {shown}: {error}"));
+    let paths = entries.map(|entry| entry.expect("an entry").path());
+    let json = |path: &PathBuf| path.extension().is_some_and(|kind| kind == "json");
+    let mut files: Vec<PathBuf> = paths.filter(json).collect();
     files.sort();
-    assert!(!files.is_empty(), "no vectors in the folder");
+    assert!(!files.is_empty(), "no vectors in the folder {shown}");
+    files
+}
+
+/// Runs every file, and prints how many steps of each call there were. There are steps of every
+/// call.
+pub fn run_folder(run: impl Fn(&Vector) -> Tally) -> Tally {
+    let files = files(&folder());
+    let all = std::env::var_os(NAMED).is_some() || files.len() >= FILES;
+    assert!(all, "{} of {FILES} files of vectors", files.len());
+    let mut total = Tally::new();
     for path in &files {
         let start = Instant::now();
         let tally = run(&Vector::read(path));
@@ -267,6 +287,17 @@ pub fn run_folder(run: impl Fn(&Vector) -> Tally) -> Tally {
         }
     }
     let steps: usize = total.values().sum();
-    println!("{} files, {steps} steps", files.len());
+    let of_calls: Vec<String> = total
+        .iter()
+        .map(|(call, count)| format!("{call} {count}"))
+        .collect();
+    println!(
+        "vectors: {} files, {steps} steps: {}",
+        files.len(),
+        of_calls.join(", ")
+    );
+    for call in CALLS {
+        assert!(total.contains_key(call), "no step of {call}");
+    }
     total
 }

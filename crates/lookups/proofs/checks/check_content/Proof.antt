@@ -10,7 +10,7 @@ use Rattle.catalogue.proofs.Outcomes.{ask-yes, ask-no}
 use Rattle.layout.specs.Parts.{inForce, spareClear}
 use Rattle.store.specs.Checks.{every, axiomsInLimit, askSpare, askLimit, askNumbers}
 use Rattle.lookups.specs.Checks.{askOccurs, contentChecks}
-use Rattle.store.proofs.Checks.{numbers-below}
+use Rattle.store.proofs.Checks.{numbers-below, two-numbers}
 use borrow.Author.Needs.{needs}
 use Rattle.lookups.proofs.checks.check_content.Statement.{statement}
 use Rattle.lookups.proofs.checks.check_content.Tie as tie
@@ -51,7 +51,10 @@ returns-3 c =
     ∙ ask-no 15 0 _ (numbers-below _ _ _ _ (c .before .concepts .ensures) (not-true _ (c .if3 .taken))))
 
 both-occur-requires : tie.Need-both-occur-requires
-both-occur-requires c κs = record { sized = c .before .before .before .before .before .before .before .before .pre; spare = spare-clear (c .before .before .before .before) }
+both-occur-requires c κs =
+    let s = c .before .before .before .before .before .before .before .before in
+    let named = two-numbers (s .args .b .now) (s .args .c) (s .args .d) (below c) in
+    (record { sized = s .pre; spare = spare-clear (c .before .before .before .before) }, named .0, named .1)
 
 returns-4 : tie.Need-returns-4
 unfolding askSpare askLimit askNumbers askOccurs contentChecks

@@ -1,0 +1,194 @@
+//! The kinds of a state, arranged by what the library says lies under what.
+
+use girvotal::{Axiom, Catalogue, Concept, Record, Refusal, Row};
+
+use crate::state::State;
+use crate::text::parts;
+
+/// Kinds of which each lies under the other.
+pub struct Entry<'s> {
+    /// Their names, rising.
+    pub names: Vec<&'s str>,
+    /// The record of the first.
+    concept: Concept,
+    /// Whether one of them is in an axiom in force, as a side or in one.
+    pub used: bool,
+    /// The entries directly above, rising.
+    pub above: Vec<usize>,
+    /// The entries directly below, rising.
+    pub below: Vec<usize>,
+    /// How many kinds lie below, directly or not.
+    pub kinds_below: usize,
+}
+
+impl Entry<'_> {
+    /// A word that no other entry has, by the record of its first kind.
+    pub fn id(&self) -> String {
+        format!("k{}", self.concept.0)
+    }
+}
+
+/// Where an entry stands in the tree.
+#[derive(Clone, Copy)]
+pub struct Place {
+    /// The entry.
+    pub entry: usize,
+    /// The entry that it stands under.
+    pub above: Option<usize>,
+    /// How many entries it stands under.
+    pub depth: usize,
+    /// Whether it is the entry's first place: what lies below stands there alone.
+    pub first: bool,
+}
+
+/// All entries, and the places in which they stand.
+pub struct Tree<'s> {
+    entries: Vec<Entry<'s>>,
+    places: Vec<Place>,
+}
+
+/// A kind with its name and the concepts above it.
+struct Kind<'s> {
+    concept: Concept,
+    name: &'s str,
+    above: Row<'s>,
+}
+
+impl Kind<'_> {
+    fn under(&self, other: &Kind<'_>) -> bool {
+        self.above.contains(other.concept)
+    }
+}
+
+impl<'s> Tree<'s> {
+    /// The tree of a state. Entries are numbered by their first names, those in no axiom last.
+    pub fn of(state: &'s State) -> Result<Tree<'s>, Refusal> {
+        let used = used(state.site.catalogue());
+        let mut kinds = Vec::new();
+        for concept in state.kinds() {
+            let (name, above) = (state.name(concept), state.site.row(concept)?);
+            kinds.push(Kind {
+                concept,
+                name,
+                above,
+            });
+        }
+        let unused = |kind: &Kind<'_>| !used[usize::from(kind.concept.0)];
+        kinds.sort_by_key(|kind| (unused(kind), kind.name));
+        let mut entries: Vec<Entry<'s>> = Vec::new();
+        let mut firsts: Vec<&Kind<'s>> = Vec::new();
+        for kind in &kinds {
+            let equal = |first: &&Kind<'s>| kind.under(first) && first.under(kind);
+            match firsts.iter().position(equal) {
+                Some(entry) => entries[entry].names.push(kind.name),
+                None => {
+                    firsts.push(kind);
+                    entries.push(Entry {
+                        names: vec![kind.name],
+                        concept: kind.concept,
+                        used: !unused(kind),
+                        above: vec![],
+                        below: vec![],
+                        kinds_below: 0,
+                    });
+                }
+            }
+        }
+        order(&mut entries, &firsts);
+        let places = places(&entries);
+        Ok(Tree { entries, places })
+    }
+
+    /// The entries.
+    pub fn entries(&self) -> &[Entry<'s>] {
+        &self.entries
+    }
+
+    /// The entry of a number.
+    pub fn entry(&self, number: usize) -> &Entry<'s> {
+        &self.entries[number]
+    }
+
+    /// The places from top to bottom: after an entry's first place follow those below it.
+    pub fn places(&self) -> &[Place] {
+        &self.places
+    }
+
+    /// How many kinds there are.
+    pub fn kinds(&self) -> usize {
+        self.entries.iter().map(|entry| entry.names.len()).sum()
+    }
+}
+
+/// Which concepts are in an axiom, as a side or in one.
+fn used(catalogue: Catalogue<'_>) -> Vec<bool> {
+    let records: Vec<Record> = catalogue.records().collect();
+    let mut used = vec![false; records.len()];
+    for Axiom { left, right } in catalogue.axioms() {
+        used[usize::from(left.0)] = true;
+        used[usize::from(right.0)] = true;
+    }
+    // From the last on: parts have smaller numbers than their record.
+    for (number, &record) in records.iter().enumerate().rev() {
+        if used[number] {
+            parts(record).for_each(|part| used[part] = true);
+        }
+    }
+    used
+}
+
+/// Enters what is above and below: of the entries above one, those are direct that are above no
+/// other of them.
+fn order(entries: &mut [Entry<'_>], firsts: &[&Kind<'_>]) {
+    let numbers = 0..entries.len();
+    let above = |entry: usize| {
+        let others = numbers.clone().filter(move |&other| other != entry);
+        let above = others.filter(|&other| firsts[entry].under(firsts[other]));
+        above.collect()
+    };
+    let all_above: Vec<Vec<usize>> = numbers.clone().map(above).collect();
+    for (entry, above) in all_above.iter().enumerate() {
+        let mut direct = vec![true; entries.len()];
+        for &other in above {
+            all_above[other].iter().for_each(|&far| direct[far] = false);
+        }
+        let names = entries[entry].names.len();
+        for &other in above {
+            entries[other].kinds_below += names;
+            if direct[other] {
+                entries[entry].above.push(other);
+                entries[other].below.push(entry);
+            }
+        }
+    }
+}
+
+/// The places of all entries: those with none above at the top, the others under each directly
+/// above.
+fn places(entries: &[Entry<'_>]) -> Vec<Place> {
+    let under = |above: Option<usize>, depth: usize| {
+        move |&entry: &usize| Place {
+            entry,
+            above,
+            depth,
+            first: false,
+        }
+    };
+    let tops: Vec<usize> = (0..entries.len())
+        .filter(|&entry| entries[entry].above.is_empty())
+        .collect();
+    let mut left: Vec<Place> = tops.iter().rev().map(under(None, 0)).collect();
+    let mut placed = vec![false; entries.len()];
+    let mut places = Vec::new();
+    while let Some(mut place) = left.pop() {
+        let Entry { below, .. } = &entries[place.entry];
+        place.first = !placed[place.entry];
+        placed[place.entry] = true;
+        places.push(place);
+        if place.first {
+            let below = below.iter().rev();
+            left.extend(below.map(under(Some(place.entry), place.depth + 1)));
+        }
+    }
+    places
+}

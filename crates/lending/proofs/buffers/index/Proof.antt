@@ -1,0 +1,10 @@
+-- `buffers::index` meets its contract: it is all zeros.
+use Rattle.lending.proofs.Zeros.{zeros}
+use Rattle.lending.proofs.buffers.index.Statement.{statement}
+use Rattle.lending.proofs.buffers.index.Tie as tie
+
+returns : tie.Need-returns
+returns c = zeros 65728
+
+pub index-spec : {M : Type 1} → statement M
+index-spec = tie.close (tie.spec returns)
