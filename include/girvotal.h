@@ -29,7 +29,7 @@
  * global variables. Any number of calls may run at once, as long as no buffer that
  * one of them writes is used by another.
  *
- * Stack: girvotal_classify and girvotal_change take at most 240 KiB, girvotal_lookup,
+ * Stack: girvotal_classify and girvotal_change take at most 384 KiB, girvotal_lookup,
  * girvotal_list and girvotal_row 48 KiB, girvotal_check and girvotal_write 4 KiB,
  * whatever the catalogue.
  */

@@ -39,7 +39,7 @@ static size_t lookup(void) {
 }
 
 static size_t list_under(void) {
-    return girvotal_list(catalogue, length, girvotal_entry(axiom, 1), store, sizeof store, list,
+    return girvotal_list(catalogue, length, girvotal_entry(axiom, 0), store, sizeof store, list,
                          sizeof list, answer, GIRVOTAL_ENTRIES);
 }
 
