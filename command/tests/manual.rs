@@ -104,7 +104,10 @@ fn formatted() {
             let mut words = formatter.split(' ');
             let mut command = Command::new(words.next().expect("a program"));
             match command.args(words).arg(&file).output() {
-                Err(error) => assert_eq!(error.kind(), ErrorKind::NotFound, "{formatter}"),
+                Err(error) => {
+                    assert_eq!(error.kind(), ErrorKind::NotFound, "{formatter}");
+                    println!("manual: not formatted, there is no {formatter}");
+                }
                 Ok(run) => {
                     let said = [run.stdout, run.stderr].concat();
                     let said = String::from_utf8_lossy(&said);

@@ -48,7 +48,7 @@ pub fn compare(
         let what = if returned != expected {
             Some(format!("{returned} is returned, not {expected}"))
         } else if got != *buffers {
-            difference(&got, buffers)
+            difference(&got, buffers).or(Some("a buffer differs".to_string()))
         } else {
             first("catalogue", &read, catalogue)
         };

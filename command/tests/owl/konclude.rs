@@ -159,9 +159,14 @@ impl Tally {
                 continue;
             };
             let under = |pair: &&Pair| hierarchy.under(pair.below, pair.above);
+            let false_yes = denied.iter().find(under);
+            assert!(
+                regular || false_yes.is_none(),
+                "{what}: a yes that is denied"
+            );
             let missed: Vec<&Pair> = said.iter().filter(|pair| !under(pair)).collect();
             let mut asked = missed.iter().filter(|pair| regular && !pair.universal);
-            match denied.iter().find(under).or(asked.next().copied()) {
+            match false_yes.or(asked.next().copied()) {
                 Some(Pair { below, above, .. }) => differing.push((*below, *above)),
                 None => break missed,
             }

@@ -2,7 +2,7 @@
 
 use crate::{faults, sources};
 
-/// The example: a misspelt name in the lake's text.
+/// A misspelt name in the lake's text.
 #[test]
 fn misspelt_in_the_lake() {
     let text = String::from_utf8(sources::file("lake.gv")).expect("UTF-8");

@@ -48,7 +48,7 @@ fn axioms(bytes: &[u8]) -> Vec<(u16, u16)> {
     axioms.map(|axiom| (axiom.left.0, axiom.right.0)).collect()
 }
 
-/// The text, with its names and numbers.
+/// The lake's text, with its names and numbers.
 #[test]
 fn the_lake() {
     let text = sources::file("lake.gv");

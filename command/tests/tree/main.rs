@@ -19,7 +19,7 @@ use girvotal_command::state::State;
 use picture::{drawn, places, state};
 use support::Folder;
 
-/// The issue's example.
+/// The lake's tree.
 #[test]
 fn lake() {
     let tree = "\

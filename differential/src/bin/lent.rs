@@ -3,7 +3,7 @@
 //!     valgrind --quiet --error-exitcode=9 lent trials COUNT SECONDS
 //!     valgrind --quiet --error-exitcode=9 lent fault read|write|undefined
 //!
-//! The first makes COUNT calls, or as many as it can in SECONDS. The second makes one that valgrind
+//! The first makes COUNT calls, or as many as it can in SECONDS, a tenth at the least. The second makes one that valgrind
 //! must report: with a catalogue or a work space that is lent one byte longer than its block, or a
 //! lookup in a store that is undefined.
 
@@ -54,6 +54,9 @@ fn trials(count: u64, seconds: u64) -> Result<String, String> {
     }
     for seed in 0..count {
         if begin.elapsed().as_secs() >= seconds {
+            if seed < count / 10 {
+                return Err(format!("only {seed} of {count} calls in {seconds} seconds"));
+            }
             break;
         }
         let made = Trial::new(seed).make(tally);
