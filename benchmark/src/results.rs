@@ -6,7 +6,7 @@ use crate::measures::edits::{self, OneAxiom};
 use crate::measures::{classify, reading};
 use crate::memory::{self, Peaks};
 use crate::timing::Budget;
-use crate::whole::{self, Built, Took};
+use crate::whole::{self, Built, Whole};
 use reference::catalogue::Catalogue;
 
 /// How long each measurement may take.
@@ -97,7 +97,7 @@ pub struct Results {
     /// Classify of the files in `data`.
     pub files: Vec<(&'static str, classify::Cost)>,
     /// Whole processes, by file.
-    pub whole: Vec<(&'static str, Vec<Took>)>,
+    pub whole: Vec<Whole>,
     pub peaks: Vec<Peaks>,
     /// The stack of each call.
     pub stacks: Vec<(String, usize)>,
@@ -125,7 +125,7 @@ impl Results {
         let built = Built::here();
         let whole = |name: &'static str| {
             said(&format!("whole processes, {name}"));
-            (name, whole::time(&built, name, budgets.processes))
+            whole::time(&built, name, budgets.processes)
         };
         Results {
             machine: machine::description(),

@@ -23,6 +23,26 @@ pub struct Took {
     pub peak: f64,
 }
 
+impl Took {
+    fn of(program: &'static str, runs: &[Ran]) -> Took {
+        let all = |cost: fn(&Ran) -> f64| runs.iter().map(cost);
+        Took {
+            program,
+            milliseconds: Sample::of(all(|ran| ran.milliseconds).collect()),
+            processor: Sample::of(all(|ran| ran.processor).collect()),
+            peak: all(|ran| ran.peak).fold(0.0, f64::max),
+        }
+    }
+}
+
+/// What the programs took on one file.
+pub struct Whole {
+    pub file: &'static str,
+    pub took: Vec<Took>,
+    /// Konclude was run, and failed: nothing is kept of it.
+    pub failed: bool,
+}
+
 /// A program with its arguments, and the exit status that it must have.
 struct Program {
     name: &'static str,
@@ -126,32 +146,44 @@ fn konclude(owl: String, scratch: &Scratch) -> Program {
 }
 
 /// Runs a program once, or again, three times in all, where it does not end with the
-/// status that it must have.
-fn run(program: &Program) -> Ran {
+/// status that it must have. Nothing if Konclude never does; the others must.
+fn run(program: &Program) -> Option<Ran> {
     const TRIES: usize = 3;
     let (first, arguments) = program.words.split_first().expect("a program");
     let arguments: Vec<&str> = arguments.iter().map(String::as_str).collect();
     let mut tries = (0..TRIES).filter_map(|_| processes::run(first, &arguments));
     let ran = tries.find(|ran| ran.status == program.status);
-    ran.unwrap_or_else(|| panic!("{} does not end with {}", program.name, program.status))
+    assert!(
+        ran.is_some() || program.name == KONCLUDE,
+        "{} does not end with {}",
+        program.name,
+        program.status
+    );
+    ran
 }
 
-/// Runs all programs on a file in turn, in rounds.
-pub fn time(built: &Built, name: &str, budget: Budget) -> Vec<Took> {
+/// Runs all programs on a file in turn, in rounds; one that fails is not run again.
+pub fn time(built: &Built, file: &'static str, budget: Budget) -> Whole {
     let scratch = Scratch::new();
-    let programs = built.programs(name, &scratch);
-    let round = || -> Vec<Ran> { programs.iter().map(run).collect() };
-    let first = round();
-    let rounds = budget.rounds(first.iter().map(|ran| ran.milliseconds).sum());
-    let rounds: Vec<Vec<Ran>> = (0..rounds).map(|_| round()).collect();
-    let took = |(i, program): (usize, &Program)| {
-        let all = |cost: fn(&Ran) -> f64| rounds.iter().map(move |round| cost(&round[i]));
-        Took {
-            program: program.name,
-            milliseconds: Sample::of(all(|ran| ran.milliseconds).collect()),
-            processor: Sample::of(all(|ran| ran.processor).collect()),
-            peak: all(|ran| ran.peak).fold(0.0, f64::max),
-        }
+    let programs = built.programs(file, &scratch);
+    let count = programs.len();
+    let mut kept: Vec<(Program, Vec<Ran>)> = programs.into_iter().map(|p| (p, vec![])).collect();
+    let round = |kept: &mut Vec<(Program, Vec<Ran>)>| {
+        kept.retain_mut(|(program, runs)| {
+            let ran = run(program);
+            runs.extend(ran);
+            ran.is_some()
+        });
     };
-    programs.iter().enumerate().map(took).collect()
+    round(&mut kept);
+    let first = kept.iter().map(|(_, runs)| runs[0].milliseconds).sum();
+    (0..budget.rounds(first)).for_each(|_| round(&mut kept));
+    let took = kept
+        .iter()
+        .map(|(program, runs)| Took::of(program.name, &runs[1..]));
+    Whole {
+        file,
+        took: took.collect(),
+        failed: kept.len() < count,
+    }
 }

@@ -1,8 +1,15 @@
 //! What the benchmark writes: numbers, tables, the document, the plot.
 
+use benchmark::catalogues::FAMILIES;
+use benchmark::measures::{classify, edits, reading};
 use benchmark::page::plot::{Bars, Panel, Series, plot};
 use benchmark::page::svg::{Anchor, Svg, escaped};
+use benchmark::page::tables::{growth, processes};
 use benchmark::page::{BEGIN, END, Table, digits, grouped, replaced, wrapped};
+use benchmark::results::{Costs, Measured};
+use benchmark::statistics::Sample;
+use benchmark::whole::{KONCLUDE, Took, Whole};
+use reference::calls::Counts;
 
 #[test]
 fn numbers() {
@@ -45,6 +52,88 @@ fn documents() {
     assert_eq!(replaced(&document, "\nnew\n"), Some(expected.clone()));
     assert_eq!(replaced(&expected, "new"), Some(expected));
     assert_eq!(replaced("without the lines", "new"), None);
+}
+
+/// A family whose calls take n² at n concepts, changed by so many axioms at each size.
+fn squares(axioms: [usize; 2]) -> Measured {
+    let costs = [(64, axioms[0]), (128, axioms[1])].map(|(concepts, axioms)| {
+        let sample = Sample::of(vec![(concepts * concepts) as f64]);
+        let reading = || reading::Cost {
+            library: sample,
+            plain: sample,
+        };
+        Costs {
+            concepts,
+            lent: 0,
+            classify: classify::Cost {
+                counts: Counts { pairs: 0, links: 0 },
+                library: sample,
+                sweeping: sample,
+                indexed: sample,
+            },
+            change: edits::OneAxiom {
+                withdraw: sample,
+                add: sample,
+                axioms,
+            },
+            reading: reading::Costs {
+                composites: reading(),
+                kinds: reading(),
+                list: reading(),
+            },
+        }
+    });
+    Measured {
+        family: &FAMILIES[0],
+        costs: costs.into_iter().collect(),
+    }
+}
+
+#[test]
+fn growth_of_changes_by_few_axioms_is_left_out() {
+    let text = growth(&[squares([20, 100]), squares([100, 19])]);
+    let rows: Vec<&str> = text.lines().skip(2).collect();
+    let name = FAMILIES[0].name;
+    let all = format!("| {name} | 4.0 | 2.0 | 2.0 | 2.0 | 2.0 | 2.0 |");
+    let without = format!("| {name} | 4.0 | 2.0 | 2.0 |  | 2.0 | 2.0 |");
+    assert_eq!(rows, [all, without]);
+}
+
+/// A file on which these programs took a millisecond.
+fn whole(file: &'static str, programs: &[&'static str], failed: bool) -> Whole {
+    let took = programs.iter().map(|&program| Took {
+        program,
+        milliseconds: Sample::of(vec![1.0]),
+        processor: Sample::of(vec![1.0]),
+        peak: 3e6,
+    });
+    Whole {
+        file,
+        took: took.collect(),
+        failed,
+    }
+}
+
+#[test]
+fn where_konclude_is_missing() {
+    let both = |file| whole(file, &["girvotal", KONCLUDE], false);
+    let text = processes(&[both("a"), both("b")]);
+    assert_eq!(text.lines().count(), 2 + 4, "{text}");
+    assert!(text.ends_with("| 1.0 | 3.0 |\n"), "{text}");
+    let failed = |file| whole(file, &["girvotal"], true);
+    let text = processes(&[both("a"), failed("b"), failed("c")]);
+    let said = "Konclude has no row of b, c: three times in a row it crashed or did not end.";
+    assert!(
+        text.ends_with(&format!(
+            "| c | girvotal | 1.00 | 1.00 | ±0% | 1.00 |  | 3.0 |\n\n{said}\n"
+        )),
+        "{text}"
+    );
+    let text = processes(&[whole("a", &["girvotal"], false)]);
+    assert!(
+        text.contains("it is not installed") && !text.contains("crashed"),
+        "{text}"
+    );
 }
 
 /// The names of a text's elements, each where it begins, if it is well-formed XML as

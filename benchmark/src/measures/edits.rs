@@ -190,10 +190,13 @@ pub fn time_kind(
 pub struct OneAxiom {
     pub withdraw: Sample,
     pub add: Sample,
+    /// How many different axioms the changes are by.
+    pub axioms: usize,
 }
 
 /// Times changes that withdraw an axiom of the catalogue, each followed by the one
-/// that adds it again; every run takes another axiom, evenly spread.
+/// that adds it again. Every run takes another axiom, evenly spread; if there are
+/// fewer than runs, all are taken, each as often as the others.
 pub fn time_one_axiom(name: &str, catalogue: &Catalogue, budget: Budget) -> OneAxiom {
     let mut site = classified(catalogue);
     let store = site.store().to_vec();
@@ -207,11 +210,15 @@ pub fn time_one_axiom(name: &str, catalogue: &Catalogue, budget: Budget) -> OneA
         [withdraw, add]
     };
     let one = timing::milliseconds(|| both(catalogue.axioms[0]));
-    let axioms = own_axioms(catalogue, budget.rounds(one));
-    let times: Vec<[f64; 2]> = axioms.into_iter().map(both).collect();
+    let rounds = budget.rounds(one);
+    let axioms = own_axioms(catalogue, rounds.min(catalogue.axioms.len()));
+    let passes = rounds.div_ceil(axioms.len());
+    let runs = axioms.iter().cycle().take(passes * axioms.len());
+    let times: Vec<[f64; 2]> = runs.copied().map(both).collect();
     let sample = |i: usize| Sample::of(times.iter().map(|time| time[i]).collect());
     OneAxiom {
         withdraw: sample(0),
         add: sample(1),
+        axioms: axioms.len(),
     }
 }

@@ -6,7 +6,7 @@ use crate::catalogues::SIZES;
 use crate::measures::{classify, reading};
 use crate::results::{Costs, Measured, Results};
 use crate::statistics::{Sample, exponent, factors};
-use crate::whole::{KONCLUDE, Took};
+use crate::whole::{KONCLUDE, Took, Whole};
 
 /// Percent of the median that the quartiles lie apart, halved.
 fn spread(sample: &Sample) -> String {
@@ -73,7 +73,7 @@ fn change(families: &[Measured]) -> String {
             digits(plain),
             ratio(change.withdraw.median, plain),
             ratio(change.add.median, plain),
-            change.add.runs.to_string(),
+            change.axioms.to_string(),
         ]
     })
 }
@@ -149,7 +149,14 @@ fn points(measured: &Measured, call: Call, side: usize) -> Vec<(f64, f64)> {
         .collect()
 }
 
-fn growth(families: &[Measured]) -> String {
+/// Whether a family's changes are by enough axioms, at every size, to say how they grow.
+fn by_enough_axioms(measured: &Measured) -> bool {
+    const FEWEST: usize = 20;
+    let mut costs = measured.costs.iter();
+    costs.all(|costs| costs.change.axioms >= FEWEST)
+}
+
+pub fn growth(families: &[Measured]) -> String {
     let mut head = vec!["catalogue".to_string()];
     head.extend(SIZES.windows(2).map(|pair| format!("to {}", pair[1])));
     let exponents = ["classify", "plain", "withdrawn", "lookup", "listing"];
@@ -162,13 +169,14 @@ fn growth(families: &[Measured]) -> String {
         let mut cells = vec![measured.family.name.to_string()];
         cells.extend(factors(&costs).iter().map(|factor| format!("{factor:.1}")));
         let fitted = [
-            by_library,
-            points(measured, of_classify, 1),
-            points(measured, of_change, 0),
-            points(measured, of_lookup, 0),
-            points(measured, of_list, 0),
+            Some(by_library),
+            Some(points(measured, of_classify, 1)),
+            by_enough_axioms(measured).then(|| points(measured, of_change, 0)),
+            Some(points(measured, of_lookup, 0)),
+            Some(points(measured, of_list, 0)),
         ];
-        cells.extend(fitted.map(|points| format!("{:.1}", exponent(&points))));
+        let told = |points: Vec<_>| format!("{:.1}", exponent(&points));
+        cells.extend(fitted.map(|points| points.map_or(String::new(), told)));
         table.row(&cells);
     }
     table.text()
@@ -186,11 +194,32 @@ fn megabytes(bytes: f64) -> String {
     format!("{:.1}", bytes / 1e6)
 }
 
-/// What is said where Konclude is missing from the table.
-const NOT_MEASURED: &str =
-    "\nKonclude was not measured: it is not installed, or the command has no `text --owl`.\n";
+/// Konclude's row.
+fn konclude(whole: &Whole) -> Option<&Took> {
+    whole.took.iter().find(|took| took.program == KONCLUDE)
+}
 
-fn processes(results: &Results) -> String {
+/// What is said where Konclude is missing from the table.
+fn missing(whole: &[Whole]) -> String {
+    let failed = whole.iter().filter(|whole| whole.failed);
+    let failed: Vec<&str> = failed.map(|whole| whole.file).collect();
+    let mut said = String::new();
+    if !failed.is_empty() {
+        let text = format!(
+            "Konclude has no row of {}: three times in a row it crashed or did not end.",
+            failed.join(", ")
+        );
+        said += &format!("\n{}\n", wrapped(&text, ""));
+    }
+    let measured = |whole: &Whole| whole.failed || konclude(whole).is_some();
+    if !whole.iter().all(measured) {
+        said += "\nKonclude was not measured: it is not installed, or the command has no \
+                 `text --owl`.\n";
+    }
+    said
+}
+
+pub fn processes(whole: &[Whole]) -> String {
     let head = [
         "file",
         "program",
@@ -202,14 +231,14 @@ fn processes(results: &Results) -> String {
         "peak MB",
     ];
     let mut table = Table::new(&head);
-    for (file, took) in &results.whole {
-        let konclude = took.iter().find(|took| took.program == KONCLUDE);
-        for (i, took) in took.iter().enumerate() {
+    for of_file in whole {
+        let konclude = konclude(of_file);
+        for (i, took) in of_file.took.iter().enumerate() {
             let times = |other: &Took| other.milliseconds.median / took.milliseconds.median;
             let ahead = konclude.map_or("".to_string(), |other| format!("{:.1}", times(other)));
             table.row(&[
                 if i == 0 {
-                    file.to_string()
+                    of_file.file.to_string()
                 } else {
                     String::new()
                 },
@@ -223,11 +252,7 @@ fn processes(results: &Results) -> String {
             ]);
         }
     }
-    let measured = |(_, took): &(_, Vec<Took>)| took.iter().any(|took| took.program == KONCLUDE);
-    match results.whole.iter().all(measured) {
-        true => table.text(),
-        false => table.text() + NOT_MEASURED,
-    }
+    table.text() + &missing(whole)
 }
 
 fn memory(results: &Results) -> String {
@@ -277,7 +302,8 @@ pub fn measured(results: &Results) -> String {
          ## Classify\n\nMilliseconds of processor time:\n\n{}\n\
          The files in `data/`:\n\n{}\n\
          ## Growth\n\nThe factor of classify from each size to the next, and the exponent k of \
-         the power law\nn^k that fits best:\n\n{}\n\
+         the power law\nn^k that fits best; of changes where they are by 20 axioms or more at \
+         every size:\n\n{}\n\
          ## Change\n\nMilliseconds of processor time of a change by one axiom:\n\n{}\n\
          ## Lookup and listing\n\nNanoseconds of processor time:\n\n{}\n\
          The quartiles lie at most {:.0}% of the median from their middle.\n\n\
@@ -292,7 +318,7 @@ pub fn measured(results: &Results) -> String {
         change(families),
         reading(families),
         reading_spread(families),
-        processes(results),
+        processes(&results.whole),
         memory(results),
         stack(results),
     )
@@ -322,9 +348,9 @@ pub fn plotted(results: &Results) -> String {
     let bars: Vec<Bars> = results
         .whole
         .iter()
-        .map(|(name, took)| Bars {
-            name: name.to_string(),
-            costs: took.iter().map(bar).collect(),
+        .map(|whole| Bars {
+            name: whole.file.to_string(),
+            costs: whole.took.iter().map(bar).collect(),
         })
         .collect();
     super::plot::plot(&names, &panels, &bars)
