@@ -7,38 +7,33 @@ use reference::examples::EXAMPLES;
 use reference::random::Random;
 use std::collections::HashSet;
 use std::fs;
-use std::path::{Path, PathBuf};
 
-/// The folder of catalogues and texts.
-fn data() -> PathBuf {
-    Path::new(env!("CARGO_MANIFEST_DIR")).join("../data")
-}
+use crate::support::{data, data_files};
 
-/// A file of the folder.
+/// A file of data/.
 pub fn file(name: &str) -> Vec<u8> {
     fs::read(data().join(name)).expect("a file of data/")
 }
 
-/// The names of the folder's files with an ending.
+/// The names of the files of data/ with an ending.
 fn files(ending: &str) -> Vec<String> {
-    let entries = fs::read_dir(data()).expect("the folder data/");
-    let names = entries.map(|entry| entry.expect("an entry").file_name());
-    let names = names.filter_map(|name| name.into_string().ok());
-    let mut names: Vec<String> = names.filter(|name| name.ends_with(ending)).collect();
-    names.sort();
-    names
+    let names = data_files(ending).into_iter().map(|path| {
+        let name = path.file_name().expect("a file's name");
+        name.to_str().expect("UTF-8").to_owned()
+    });
+    names.collect()
 }
 
-/// The names of the folder's texts.
+/// The names of the texts of data/.
 pub fn texts() -> Vec<String> {
-    let texts = files(".gv");
+    let texts = files("gv");
     assert!(texts.len() >= 2);
     texts
 }
 
-/// Every catalogue of the folder and every built-in one, with its name.
+/// Every catalogue of data/ and every built-in one, with its name.
 pub fn catalogues() -> Vec<(String, Vec<u8>)> {
-    let files = files(".bin").into_iter();
+    let files = files("bin").into_iter();
     let mut all: Vec<_> = files.map(|name| (name.clone(), file(&name))).collect();
     assert!(all.len() >= 14);
     for (name, example) in EXAMPLES {
