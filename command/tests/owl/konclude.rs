@@ -7,7 +7,11 @@ use crate::support::{say, Folder};
 use crate::{read, sources};
 use girvotal::{Concept, Record, Row, Site};
 use girvotal_command::text::{compile, owl, Compiled, Names};
+use reference::calls::classified;
+use reference::catalogue::{self, Catalogue};
 use reference::random::Random;
+use reference::store::Layout;
+use std::cell::OnceCell;
 use std::fs;
 use std::path::Path;
 use std::process::{Command, Stdio};
@@ -17,12 +21,17 @@ use std::time::{Duration, Instant};
 /// yet.
 const LIMIT: Duration = Duration::from_secs(60);
 
-/// How often it is asked at most. On large catalogues its runs differ from each other, by a few
-/// pairs; most agree with the library.
+/// How many of its runs may differ from the library. On large catalogues they differ from each
+/// other, by a few pairs; most agree.
 const RUNS: usize = 12;
 
-/// How often it is asked at most where it crashes, which irregular role axioms make it do.
-const CRASHES: usize = 3;
+/// How often it may crash, which irregular role axioms make it do: on `small-1.bin` in two runs of
+/// three, on some random catalogues in every run.
+const CRASHES: usize = 60;
+const CRASHES_AT_RANDOM: usize = 3;
+
+/// The one file of data/ of which it misses pairs.
+const MISSED: &str = "composed-0.bin";
 
 /// So many random catalogues of each family.
 const SEEDS: u64 = 100;
@@ -66,8 +75,6 @@ struct Pair {
     above: usize,
     /// Whether both are kinds.
     kinds: bool,
-    /// Whether everything lies under the upper one, by the library.
-    universal: bool,
 }
 
 /// All pairs of concepts that occur: those that the library says, and those that it denies.
@@ -76,7 +83,6 @@ fn pairs(site: &Site) -> (Vec<Pair>, Vec<Pair>) {
     let rows =
         concepts.filter_map(|(concept, record)| Some((concept, record, site.row(concept).ok()?)));
     let rows: Vec<(Concept, Record, Row<'_>)> = rows.collect();
-    let top = rows.iter().find(|(_, record, _)| *record == Record::Top);
     let (mut said, mut denied) = (vec![], vec![]);
     for &(below, record, row) in &rows {
         for &(above, record_above, _) in &rows {
@@ -84,7 +90,6 @@ fn pairs(site: &Site) -> (Vec<Pair>, Vec<Pair>) {
                 below: usize::from(below.0),
                 above: usize::from(above.0),
                 kinds: record == Record::Atomic && record_above == Record::Atomic,
-                universal: top.is_some_and(|(_, _, row)| row.contains(above)),
             };
             match row.contains(above) {
                 true => said.push(pair),
@@ -93,6 +98,30 @@ fn pairs(site: &Site) -> (Vec<Pair>, Vec<Pair>) {
         }
     }
     (said, denied)
+}
+
+/// What the reference says of a catalogue.
+struct Reference {
+    catalogue: Catalogue,
+    store: Vec<u8>,
+}
+
+impl Reference {
+    fn of(bytes: &[u8]) -> Reference {
+        let catalogue = Catalogue::read(bytes).expect("an accepted catalogue");
+        let (_, store) = classified(bytes).expect("an accepted catalogue");
+        Reference { catalogue, store }
+    }
+
+    fn under(&self, below: usize, above: usize) -> bool {
+        Layout::new(&self.catalogue).has_pair(&self.store, below, above)
+    }
+
+    /// Whether everything lies under a concept.
+    fn universal(&self, above: usize) -> bool {
+        let mut concepts = self.catalogue.concepts.iter().enumerate();
+        concepts.any(|(top, concept)| *concept == catalogue::Concept::Top && self.under(top, above))
+    }
 }
 
 /// What was compared.
@@ -133,27 +162,36 @@ impl Tally {
         ));
     }
 
-    /// Compares all pairs of concepts that occur. One run of Konclude says no yes that the library
-    /// denies; and where the role axioms are regular, it says all that the library says, but for
-    /// pairs whose upper holds of everything: of these it misses some.
-    fn compare(&mut self, what: &str, folder: &Path, Compiled { catalogue, names }: Compiled) {
+    /// Compares all pairs of concepts that occur, of a catalogue of data/, or of a random one. One
+    /// run of Konclude says no yes that the library denies, and all that the library says; but it
+    /// may miss pairs that the reference says too: any of `MISSED` and of random catalogues with
+    /// irregular role axioms, and of other random ones those whose upper holds of everything.
+    fn compare(&mut self, what: &str, data: bool, folder: &Path, compiled: Compiled) {
+        let Compiled { catalogue, names } = compiled;
         let text = owl(read(&catalogue), &names);
         let ontology = Ontology::read(&text);
         fs::write(folder.join("in.owl"), text).expect("an ontology");
         let regular = is_regular(&ontology.catalogue());
-        let (said, denied) = pairs(&Site::classify(catalogue).expect("an accepted catalogue"));
+        let reference = OnceCell::new();
+        let reference = || reference.get_or_init(|| Reference::of(&catalogue));
+        let may_miss = |pair: &Pair| match (data, regular) {
+            (true, _) if what != MISSED => false,
+            (false, true) => reference().universal(pair.above),
+            _ => reference().under(pair.below, pair.above),
+        };
+        let site = Site::classify(catalogue.clone()).expect("an accepted catalogue");
+        let (said, denied) = pairs(&site);
         let (mut crashes, mut differing) = (0, vec![]);
         let missed = loop {
-            if !regular && crashes == CRASHES {
+            if !data && !regular && crashes == CRASHES_AT_RANDOM {
                 self.unanswered += 1;
                 return;
             }
-            let runs = crashes + differing.len();
             assert!(
-                runs < RUNS,
+                crashes < CRASHES && differing.len() < RUNS,
                 "{what}: {crashes} crashes, and otherwise {differing:?}"
             );
-            self.again += usize::from(runs > 0);
+            self.again += usize::from(crashes + differing.len() > 0);
             let Some(hierarchy) = run(folder, &ontology) else {
                 crashes += 1;
                 continue;
@@ -165,8 +203,8 @@ impl Tally {
                 "{what}: a yes that is denied"
             );
             let missed: Vec<&Pair> = said.iter().filter(|pair| !under(pair)).collect();
-            let mut asked = missed.iter().filter(|pair| regular && !pair.universal);
-            match false_yes.or(asked.next().copied()) {
+            let wrong = missed.iter().find(|pair| !may_miss(pair)).copied();
+            match false_yes.or(wrong) {
                 Some(Pair { below, above, .. }) => differing.push((*below, *above)),
                 None => break missed,
             }
@@ -224,15 +262,18 @@ fn third_opinion() {
     }
     let folder = Folder::new();
     let mut tally = Tally::default();
-    for (name, compiled) in files() {
-        tally.compare(&name, &folder.path, compiled);
+    let files = files();
+    assert!(files.len() > 20 && files.iter().any(|(name, _)| name == MISSED));
+    for (name, compiled) in files {
+        tally.compare(&name, true, &folder.path, compiled);
     }
     tally.say("data and examples");
-    assert!(tally.catalogues > 20 && tally.denied > 100_000 && tally.said > 100_000);
+    assert!(tally.denied > 100_000 && tally.said > 100_000);
     let mut tally = Tally::default();
     for seed in 0..SEEDS {
         for (family, compiled) in random(seed).into_iter().enumerate() {
-            tally.compare(&format!("seed {seed}, {family}"), &folder.path, compiled);
+            let what = format!("seed {seed}, {family}");
+            tally.compare(&what, false, &folder.path, compiled);
         }
     }
     tally.say(&format!("seeds 0 to {}", SEEDS - 1));
