@@ -22,7 +22,7 @@
     const fits = name => name.includes(wanted);
     told.value = wanted ? count(fits) + " of " + count(() => true) + " kinds" : "";
     if (wanted) before ??= folds.map(entry => entry.open);
-    entries.forEach(entry => { entry.place.hidden = !entry.names.some(fits); });
+    entries.forEach(entry => { entry.place.hidden = wanted ? !entry.names.some(fits) : false; });
     entries.filter(entry => !entry.place.hidden)
       .forEach(entry => around(entry.place, above => { above.hidden = false; }));
     if (before) folds.forEach((entry, i) => { entry.open = wanted ? true : before[i]; });
