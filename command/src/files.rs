@@ -110,16 +110,16 @@ impl Drop for New {
 }
 
 impl Target {
-    /// Begins to make a file. A link is followed.
+    /// Begins to make a file. A link is followed, also to a pipe, which has no path of its own.
     pub fn of(path: &OsStr, streams: &Streams<'_>) -> Result<Target, Failure> {
         let mut path = PathBuf::from(path);
-        if fs::symlink_metadata(&path).is_ok_and(|data| data.is_symlink()) {
-            let followed = fs::canonicalize(&path);
-            path = followed.map_err(|error| cannot("follow", path.as_os_str(), &error))?;
-        }
         let old = fs::metadata(&path).ok();
         if old.as_ref().is_some_and(|data| !data.is_file()) {
             return Ok(Target { path, new: None });
+        }
+        if fs::symlink_metadata(&path).is_ok_and(|data| data.is_symlink()) {
+            let followed = fs::canonicalize(&path);
+            path = followed.map_err(|error| cannot("follow", path.as_os_str(), &error))?;
         }
         let permissions = old.map(|data| data.permissions());
         let new = New::create(&path, permissions, streams.after)?;
