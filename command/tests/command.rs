@@ -393,16 +393,26 @@ fn full_device() {
         "compile lake.gv -o -",
         "compile lake.gv -o made.bin",
         "text lake.gv",
+        "text lake.gv --owl",
         "classify lake.gv -o -",
         "lookup lake.state pitch pitch",
         "lookup lake.state pitch tap",
         "list lake.state pitch",
         "above lake.state pitch",
+        "tree lake.state",
+        "tree lake.state --html",
+        "tree lake.state --dot",
         "update lake.state lake.gv --dry-run",
         "change lake.state",
+        "add lake.state 'tap < pillar'",
+        "withdraw lake.state 'tap < pillar'",
         "write lake.state -o -",
         "explain 19",
     ];
+    for verb in VERBS {
+        let of_it = |line: &&str| line.split(' ').next() == Some(verb.name);
+        assert!(lines.iter().any(of_it), "{}", verb.name);
+    }
     for line in lines {
         let full = File::options()
             .write(true)
@@ -451,6 +461,13 @@ fn streams() {
     let line = "echo 'kind a\nb < a' | girvotal check -";
     let error = "-:2:1: error: `b` is not declared\n".to_string();
     assert_eq!(folder.shell(line), (3, String::new(), error));
+    // Pipes by links to them.
+    let (status, output, errors) = folder.shell("girvotal tree lake.state -o /dev/stdout | cat");
+    assert_eq!((status, errors.as_str()), (0, ""));
+    assert!(output.starts_with(&folder.done("tree lake.state")));
+    let line = "girvotal compile w1.gv -o /dev/fd/3 3>&1 > told | cat > piped";
+    assert_eq!(folder.shell(line), (0, String::new(), String::new()));
+    assert_eq!(folder.read("piped"), folder.read("w1.bin"));
     assert_eq!(folder.run("lookup -- lake.state pitch pitch").0, 0);
     folder.write("wide.gv", [0xFF, 0xFE, b'k', 0, b'i', 0]);
     let error = "wide.gv:1:1: error: the byte 0xFF is not UTF-8\n".to_string();
