@@ -51,8 +51,10 @@ _girvotal() {
         wanted='check compile text classify update lookup list above tree change add withdraw write explain --help --version --json'
     elif [[ -n $value ]]; then
         wanted=$value
-    elif [[ -z $ended && $current == -* || $place -ge ${#operands[@]} ]]; then
+    elif [[ -z $ended && ($current == -* || $place -ge ${#operands[@]}) ]]; then
         wanted=${options[*]}
+    elif [[ $place -ge ${#operands[@]} ]]; then
+        wanted=none
     else
         wanted=${operands[place]}
     fi

@@ -58,8 +58,10 @@ _girvotal() {
         wanted='@FIRST@'
     elif [[ -n $value ]]; then
         wanted=$value
-    elif [[ -z $ended && $current == -* || $place -ge ${#operands[@]} ]]; then
+    elif [[ -z $ended && ($current == -* || $place -ge ${#operands[@]}) ]]; then
         wanted=${options[*]}
+    elif [[ $place -ge ${#operands[@]} ]]; then
+        wanted=none
     else
         wanted=${operands[place]}
     fi

@@ -180,6 +180,8 @@ fn check_completion(verbs: &[Verb]) {
         let given = vec!["given"; operands.len()];
         let after = |more: &[&str]| completed(&[&[*name], &given[..], more].concat());
         assert_eq!(after(&[""]), owned(&options), "{name}");
+        assert_eq!(after(&["--", ""]), owned(&[]), "{name} --");
+        assert_eq!(after(&["--", "-"]), owned(&[]), "{name} --");
         for (place, operand) in operands.iter().enumerate() {
             let words = [&[*name, "--json"], &given[..place], &["s"]].concat();
             assert_eq!(completed(&words), expected(operand), "{name} {operand}");
