@@ -15,7 +15,9 @@ mod edits;
 mod reading;
 mod rows;
 
-fn main() {
+use std::process::ExitCode;
+
+fn main() -> ExitCode {
     let arguments: Vec<String> = std::env::args().skip(1).collect();
     let words: Vec<&str> = arguments.iter().map(String::as_str).collect();
     match words[..] {
@@ -45,6 +47,10 @@ fn main() {
         ["edit", kind, name, which] => edits::once(kind, name, which),
         ["once", side, file] => classify::once(side, file),
         ["row", row, task, way] => rows::once([row, task, way]),
-        _ => eprintln!("times [classify [FILE..] | edits | reading | rows | instructions [rows]]"),
+        _ => {
+            eprintln!("times [classify [FILE..] | edits | reading | rows | instructions [rows]]");
+            return ExitCode::from(2);
+        }
     }
+    ExitCode::SUCCESS
 }
