@@ -8,6 +8,7 @@ use differential::cases::case;
 use differential::report::case_text;
 use differential::side::LIBRARY;
 use differential::tally::Tally;
+use std::io::{ErrorKind, Write};
 use std::process::ExitCode;
 use std::time::Instant;
 
@@ -31,9 +32,17 @@ fn main() -> ExitCode {
     }
 }
 
+/// Prints a text. That its reader ended, as `head` does, is no fault.
+fn print(text: &str) {
+    match std::io::stdout().write_all(text.as_bytes()) {
+        Err(error) if error.kind() == ErrorKind::BrokenPipe => {}
+        printed => printed.expect("standard output"),
+    }
+}
+
 /// Prints a case, and then the difference, if there is one.
 fn show(seed: u64) -> ExitCode {
-    print!("{}", case_text(&case(seed)));
+    print(&case_text(&case(seed)));
     let mut tally = Tally::default();
     let done = run_seed(seed, &LIBRARY, &mut tally);
     finish(done.map(|()| tally))
@@ -43,18 +52,18 @@ fn calls(count: u64, from: u64, threads: u64) -> ExitCode {
     let begin = Instant::now();
     let goal = Goal::Calls(count as usize);
     let code = finish(run_batch(&LIBRARY, from, goal, threads as usize));
-    println!("{} s", begin.elapsed().as_secs());
+    print(&format!("{} s\n", begin.elapsed().as_secs()));
     code
 }
 
 fn finish(done: Result<Tally, Box<differential::report::Report>>) -> ExitCode {
     match done {
         Ok(tally) => {
-            println!("{tally}no difference");
+            print(&format!("{tally}no difference\n"));
             ExitCode::SUCCESS
         }
         Err(report) => {
-            println!("{report}");
+            print(&format!("{report}\n"));
             ExitCode::FAILURE
         }
     }
