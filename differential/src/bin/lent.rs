@@ -3,9 +3,9 @@
 //!     valgrind --quiet --error-exitcode=9 lent trials COUNT SECONDS
 //!     valgrind --quiet --error-exitcode=9 lent fault read|write|undefined
 //!
-//! The first makes COUNT calls, or as many as it can in SECONDS, a tenth at the least. The second makes one that valgrind
-//! must report: with a catalogue or a work space that is lent one byte longer than its block, or a
-//! lookup in a store that is undefined.
+//! The first makes COUNT calls, or as many as it can in SECONDS, a tenth at the least. The second
+//! makes one that valgrind must report: with a catalogue or a work space that is lent one byte
+//! longer than its block, or a lookup in a store that is undefined.
 
 use differential::lent::Trial;
 use differential::memcheck;
