@@ -19,10 +19,15 @@ pub struct Site {
 impl Site {
     /// A catalogue, classified.
     pub fn classify(catalogue: Vec<u8>) -> Result<Site, Refusal> {
+        Site::classified(catalogue).map(|(site, _)| site)
+    }
+
+    /// A catalogue, classified, and how much that derived.
+    pub fn classified(catalogue: Vec<u8>) -> Result<(Site, Counts), Refusal> {
         let sizes = Catalogue::new(&catalogue)?.sizes();
         let mut site = Site::lent(catalogue, sizes, vec![0; sizes.store]);
-        site.reclassify()?;
-        Ok(site)
+        let counts = site.reclassify()?;
+        Ok((site, counts))
     }
 
     /// A catalogue with a store kept from before: what the store holds is taken as it is.

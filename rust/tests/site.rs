@@ -60,13 +60,14 @@ fn w1_and_an_axiom_withdrawn() {
 #[test]
 fn as_on_lent_buffers() {
     for (name, bytes) in files() {
-        let mut site = classified(&bytes);
+        let (mut site, derived) = Site::classified(bytes.clone()).expect("an accepted catalogue");
         let catalogue = Catalogue::new(&bytes).expect("an accepted catalogue");
         let sizes = catalogue.sizes();
         let buffer = |length| vec![0; length];
         let (mut store, mut work) = (buffer(sizes.store), buffer(sizes.work));
         let counts = girvotal::classify(&catalogue, &mut store, &mut work);
         assert!(site.store() == store, "{name}");
+        assert_eq!(Ok(derived), counts, "{name}");
         assert_eq!(site.catalogue(), catalogue, "{name}");
         assert_eq!(site.reclassify(), counts, "{name}");
         assert_eq!(site.write(), Ok(bytes.clone()), "{name}");
