@@ -32,11 +32,7 @@ impl State {
     /// A catalogue, classified.
     pub fn classify(compiled: Compiled) -> Result<(State, Counts), Refusal> {
         let Compiled { catalogue, names } = compiled;
-        let checked = Catalogue::new(&catalogue)?;
-        let sizes = checked.sizes();
-        let (mut store, mut work) = (vec![0; sizes.store], vec![0; sizes.work]);
-        let counts = girvotal::classify(&checked, &mut store, &mut work)?;
-        let site = Site::of(catalogue, store)?;
+        let (site, counts) = Site::classified(catalogue)?;
         Ok((State { names, site }, counts))
     }
 
@@ -80,10 +76,14 @@ impl State {
         let names = name_bytes(&self.names);
         let (n, m) = (self.names.concepts.len(), self.names.roles.len());
         let catalogue = self.site.catalogue().bytes();
-        let mut bytes = vec![0; HEADER];
+        let sections = [names.as_slice(), catalogue, self.site.store()];
+        let whole = |length: usize| length.next_multiple_of(8);
+        let length = sections.map(<[u8]>::len).map(whole).iter().sum::<usize>();
+        let mut bytes = Vec::with_capacity(HEADER + length);
+        bytes.resize(HEADER, 0);
         let mut places = Vec::new();
-        for section in [names.as_slice(), catalogue, self.site.store()] {
-            bytes.resize(bytes.len().next_multiple_of(8), 0);
+        for section in sections {
+            bytes.resize(whole(bytes.len()), 0);
             places.extend([bytes.len(), section.len()]);
             bytes.extend_from_slice(section);
         }
@@ -223,38 +223,65 @@ fn fit(names: &Names, catalogue: Catalogue<'_>) -> bool {
         })
 }
 
-/// The CRC-32 of zlib, PNG and Ethernet.
+/// The CRC-32 of zlib, PNG and Ethernet, eight bytes at a time.
 fn crc32(bytes: &[u8]) -> u32 {
-    const TABLE: [u32; 256] = {
-        let mut table = [0; 256];
-        let mut i = 0;
-        while i < 256 {
-            let mut value = i as u32;
-            let mut bit = 0;
-            while bit < 8 {
-                let low = value & 1;
-                value >>= 1;
-                if low == 1 {
-                    value ^= 0xEDB8_8320;
-                }
-                bit += 1;
-            }
-            table[i] = value;
-            i += 1;
-        }
-        table
-    };
-    let step = |sum: u32, byte: &u8| TABLE[(sum as u8 ^ byte) as usize] ^ (sum >> 8);
-    !bytes.iter().fold(u32::MAX, step)
+    let mut eights = bytes.chunks_exact(8);
+    let mut sum = u32::MAX;
+    for eight in &mut eights {
+        let low = sum.to_le_bytes();
+        let mixed = |i: usize| eight[i] ^ low.get(i).unwrap_or(&0);
+        sum = (0..8).fold(0, |sum, i| sum ^ CRC_TABLES[7 - i][usize::from(mixed(i))]);
+    }
+    !eights.remainder().iter().fold(sum, crc_step)
 }
+
+/// The sum after one byte more.
+fn crc_step(sum: u32, byte: &u8) -> u32 {
+    CRC_TABLES[0][usize::from(sum as u8 ^ byte)] ^ (sum >> 8)
+}
+
+/// What a byte adds to the sum: table k where k bytes follow it.
+static CRC_TABLES: [[u32; 256]; 8] = {
+    let mut tables = [[0; 256]; 8];
+    let mut i = 0;
+    while i < 256 {
+        let mut value = i as u32;
+        let mut bit = 0;
+        while bit < 64 {
+            let low = value & 1;
+            value >>= 1;
+            if low == 1 {
+                value ^= 0xEDB8_8320;
+            }
+            bit += 1;
+            if bit % 8 == 0 {
+                tables[bit / 8 - 1][i] = value;
+            }
+        }
+        i += 1;
+    }
+    tables
+};
 
 #[cfg(test)]
 mod tests {
     use super::*;
+    use reference::random::Random;
 
     /// The check value that descriptions of CRC-32 give.
     #[test]
     fn crc32_of_the_digits() {
         assert_eq!(crc32(b"123456789"), 0xCBF4_3926);
+    }
+
+    /// By eight bytes it is the same as byte by byte.
+    #[test]
+    fn crc32_of_random_bytes() {
+        let random = &mut Random::new(0);
+        for length in (0..64).chain([1_000, 4_095, 65_537]) {
+            let bytes: Vec<u8> = (0..length).map(|_| random.below(256) as u8).collect();
+            let sum = !bytes.iter().fold(u32::MAX, crc_step);
+            assert_eq!(crc32(&bytes), sum, "{length} bytes");
+        }
     }
 }
