@@ -106,12 +106,11 @@ impl Compiler {
         Declaration { name, column }: Declaration,
         meaning: Meaning,
     ) {
-        if let Some(before) = self.scope.get(&name) {
+        if let Some(before) = self.scope.declare(&name, Declared { meaning, line }) {
             let (name, before) = (quoted(&name), before.line);
             let message = format!("`{name}` is declared already, on line {before}");
             self.faults.push(line, column, Problem::Said(message));
         }
-        self.scope.declare(&name, Declared { meaning, line });
     }
 
     fn finish(self) -> Result<Compiled, Failure> {
@@ -123,12 +122,12 @@ impl Compiler {
             concepts: vec![None; self.draft.concepts()],
             roles: vec![],
         };
-        for (name, meaning) in self.scope.names() {
+        for (name, meaning) in self.scope.into_names() {
             match meaning {
                 Meaning::Kind(concept) | Meaning::Let(concept) => {
-                    names.concepts[usize::from(concept.0)] = Some(name.to_owned());
+                    names.concepts[usize::from(concept.0)] = Some(name);
                 }
-                Meaning::Role(_) => names.roles.push(name.to_owned()),
+                Meaning::Role(_) => names.roles.push(name),
             }
         }
         Ok(Compiled { catalogue, names })

@@ -115,6 +115,9 @@ impl Draft {
 
     /// The record of an expression, as [`Draft::find`]; what is missing is added.
     pub(super) fn find_or_add(&mut self, expression: &Expression) -> Concept {
+        if let Some(concept) = expression.named() {
+            return concept;
+        }
         let concepts = self.found(expression.nodes());
         *concepts.last().expect("an expression has a part")
     }

@@ -1,15 +1,14 @@
 //! The tokens of a line.
 
-use std::iter::Peekable;
-use std::str::Chars;
+use std::borrow::Cow;
 
-use super::names::{continues, is_word, quoted, RESERVED};
+use super::names::{begins, continues, quoted, RESERVED};
 
 /// What a token is.
 #[derive(Clone, Debug, PartialEq, Eq)]
-pub(super) enum Lexeme {
+pub(super) enum Lexeme<'a> {
     /// A name, without its quotes.
-    Name(String),
+    Name(Cow<'a, str>),
     /// A reserved word or a sign, as it is written.
     Fixed(&'static str),
     /// What is no token, with the reason.
@@ -20,18 +19,18 @@ pub(super) enum Lexeme {
 
 /// A token and the column of its first character, from 1.
 #[derive(Clone, Debug, PartialEq, Eq)]
-pub(super) struct Token {
-    pub(super) lexeme: Lexeme,
+pub(super) struct Token<'a> {
+    pub(super) lexeme: Lexeme<'a>,
     pub(super) column: usize,
 }
 
 /// The tokens of a line, the end last.
-pub(super) fn tokens(line: &str) -> Vec<Token> {
+pub(super) fn tokens(line: &str) -> Vec<Token<'_>> {
     let mut lexer = Lexer {
-        rest: line.chars().peekable(),
+        rest: line,
         column: 1,
     };
-    let mut tokens = vec![];
+    let mut tokens = Vec::with_capacity(16);
     let mut end = 1;
     while let Some(token) = lexer.token() {
         tokens.push(token);
@@ -47,11 +46,11 @@ pub(super) fn tokens(line: &str) -> Vec<Token> {
 /// The column of a line's comment.
 pub(super) fn comment(line: &str) -> Option<usize> {
     let mut lexer = Lexer {
-        rest: line.chars().peekable(),
+        rest: line,
         column: 1,
     };
     while lexer.token().is_some() {}
-    lexer.rest.peek().map(|_| lexer.column)
+    (!lexer.rest.is_empty()).then_some(lexer.column)
 }
 
 /// A character in a message.
@@ -68,23 +67,24 @@ fn character(c: char) -> String {
 
 /// The characters that are left, and the next one's column.
 struct Lexer<'a> {
-    rest: Peekable<Chars<'a>>,
+    rest: &'a str,
     column: usize,
 }
 
-impl Lexer<'_> {
+impl<'a> Lexer<'a> {
     /// The next character, if it fits.
     fn take(&mut self, fits: impl Fn(char) -> bool) -> Option<char> {
-        let next = self.rest.next_if(|&c| fits(c));
-        self.column += usize::from(next.is_some());
-        next
+        let next = self.rest.chars().next().filter(|&c| fits(c))?;
+        self.rest = &self.rest[next.len_utf8()..];
+        self.column += 1;
+        Some(next)
     }
 
     /// The next token; none at the end of the line and at a comment.
-    fn token(&mut self) -> Option<Token> {
+    fn token(&mut self) -> Option<Token<'a>> {
         while self.take(|c| c == ' ' || c == '\t').is_some() {}
         let column = self.column;
-        let lexeme = match *self.rest.peek()? {
+        let lexeme = match self.rest.chars().next()? {
             '#' => return None,
             '"' => return Some(self.quoted()),
             c if continues(c) => self.word(),
@@ -94,25 +94,24 @@ impl Lexer<'_> {
     }
 
     /// A name without quotes, or a reserved word.
-    fn word(&mut self) -> Lexeme {
-        let mut word = String::new();
-        while let Some(c) = self.take(continues) {
-            word.push(c);
-        }
-        if !is_word(&word) {
-            let quotes = quoted(&word);
+    fn word(&mut self) -> Lexeme<'a> {
+        let begin = self.rest;
+        while self.take(continues).is_some() {}
+        let word = &begin[..begin.len() - self.rest.len()];
+        if !word.starts_with(begins) {
+            let quotes = quoted(word);
             return Lexeme::Wrong(format!(
                 "`{word}` does not begin with a letter; as a name it is quoted: `{quotes}`"
             ));
         }
         match RESERVED.into_iter().find(|&reserved| reserved == word) {
             Some(reserved) => Lexeme::Fixed(reserved),
-            None => Lexeme::Name(word),
+            None => Lexeme::Name(word.into()),
         }
     }
 
     /// A sign of one character.
-    fn sign(&mut self) -> Lexeme {
+    fn sign(&mut self) -> Lexeme<'a> {
         match self.take(|_| true) {
             Some(',') => Lexeme::Fixed(","),
             Some('<') => Lexeme::Fixed("<"),
@@ -125,7 +124,7 @@ impl Lexer<'_> {
     }
 
     /// A name in quotes. What is wrong in it stands at its own column.
-    fn quoted(&mut self) -> Token {
+    fn quoted(&mut self) -> Token<'a> {
         let begin = self.column;
         let wrong = |column: usize, message: &str| Token {
             lexeme: Lexeme::Wrong(message.to_owned()),
@@ -148,7 +147,7 @@ impl Lexer<'_> {
             Some(fault) => fault,
             None if name.is_empty() => wrong(begin, "a name is not empty"),
             None => Token {
-                lexeme: Lexeme::Name(name),
+                lexeme: Lexeme::Name(name.into()),
                 column: begin,
             },
         }

@@ -60,7 +60,7 @@ impl Names {
 }
 
 /// Whether a name may begin with the character, outside quotes.
-fn begins(c: char) -> bool {
+pub(super) fn begins(c: char) -> bool {
     c.is_alphabetic()
 }
 

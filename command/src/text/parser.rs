@@ -24,7 +24,7 @@ enum Pending {
 
 /// The tokens of a line, read up to one of them.
 pub(super) struct Parser<'a> {
-    pub(super) tokens: Vec<Token>,
+    pub(super) tokens: Vec<Token<'a>>,
     pub(super) at: usize,
     /// How many parentheses are open.
     depth: usize,
@@ -41,7 +41,7 @@ pub(super) type Parsed<T> = Result<T, Ended>;
 impl<'a> Parser<'a> {
     pub(super) fn new(
         line: usize,
-        text: &str,
+        text: &'a str,
         scope: &'a Scope,
         faults: &'a mut Faults,
     ) -> Parser<'a> {
@@ -56,12 +56,12 @@ impl<'a> Parser<'a> {
     }
 
     /// The token so many places ahead.
-    pub(super) fn ahead(&self, places: usize) -> &Token {
+    pub(super) fn ahead(&self, places: usize) -> &Token<'a> {
         let last = self.tokens.len() - 1;
         &self.tokens[last.min(self.at + places)]
     }
 
-    pub(super) fn lexeme(&self) -> &Lexeme {
+    pub(super) fn lexeme(&self) -> &Lexeme<'a> {
         &self.ahead(0).lexeme
     }
 
@@ -109,7 +109,7 @@ impl<'a> Parser<'a> {
                 Lexeme::Name(name) if !declares && self.scope.get(name).is_none() => {
                     let next = self.tokens.get(place + 1).map(|token| &token.lexeme);
                     let role = before == "then" || next == Some(&Lexeme::Fixed("some"));
-                    let name = name.clone();
+                    let name = name.to_string();
                     Problem::Undeclared { name, role }
                 }
                 _ => continue,
@@ -137,18 +137,19 @@ impl<'a> Parser<'a> {
 
     /// A role, by name.
     pub(super) fn role(&mut self) -> Parsed<Role> {
-        let Lexeme::Name(name) = self.lexeme().clone() else {
+        let Lexeme::Name(name) = self.lexeme() else {
             return self.expected("a role");
         };
         let role = match self.meaning(0) {
             Some(Meaning::Role(role)) => role,
             Some(other) => {
-                let (name, sort) = (quoted(&name), other.sort());
+                let (name, sort) = (quoted(name), other.sort());
                 let message = format!("`{name}` is {sort}, and a role is meant here");
                 self.tell(Problem::Said(message));
                 Role(0)
             }
             None => {
+                let name = name.to_string();
                 self.tell(Problem::Undeclared { name, role: true });
                 Role(0)
             }
@@ -209,7 +210,7 @@ impl<'a> Parser<'a> {
     /// A kind or a let, by name.
     fn named(&mut self) -> Parsed<Node> {
         let name = match self.lexeme() {
-            Lexeme::Name(name) => name.clone(),
+            Lexeme::Name(name) => name,
             Lexeme::Fixed("none") => {
                 return self.error("`none` is reserved, and means nothing yet".to_owned())
             }
@@ -218,10 +219,12 @@ impl<'a> Parser<'a> {
         let node = match self.meaning(0) {
             Some(Meaning::Kind(concept) | Meaning::Let(concept)) => Node::Named(concept),
             Some(Meaning::Role(_)) => {
+                let wanted = format!("`some` after the role `{}`", quoted(name));
                 self.at += 1;
-                return self.expected(&format!("`some` after the role `{}`", quoted(&name)));
+                return self.expected(&wanted);
             }
             None => {
+                let name = name.to_string();
                 self.tell(Problem::Undeclared { name, role: false });
                 Node::Top
             }

@@ -1,6 +1,6 @@
 //! The names declared so far.
 
-use std::collections::HashMap;
+use std::collections::hash_map::{Entry, HashMap};
 
 use girvotal::{Catalogue, Concept, Record, Role};
 
@@ -66,11 +66,15 @@ impl Scope {
         Some(self.declared[place].1)
     }
 
-    /// Declares a name, unless it is declared.
-    pub(super) fn declare(&mut self, name: &str, declared: Declared) {
-        if !self.by_name.contains_key(name) {
-            self.by_name.insert(name.to_owned(), self.declared.len());
-            self.declared.push((name.to_owned(), declared));
+    /// Declares a name, unless it is declared: then what it is declared as.
+    pub(super) fn declare(&mut self, name: &str, declared: Declared) -> Option<Declared> {
+        match self.by_name.entry(name.to_owned()) {
+            Entry::Occupied(place) => Some(self.declared[*place.get()].1),
+            Entry::Vacant(place) => {
+                place.insert(self.declared.len());
+                self.declared.push((name.to_owned(), declared));
+                None
+            }
         }
     }
 
@@ -78,5 +82,11 @@ impl Scope {
     pub(super) fn names(&self) -> impl ExactSizeIterator<Item = (&str, Meaning)> {
         let declared = self.declared.iter();
         declared.map(|(name, declared)| (name.as_str(), declared.meaning))
+    }
+
+    /// The same, without a copy.
+    pub(super) fn into_names(self) -> impl Iterator<Item = (String, Meaning)> {
+        let declared = self.declared.into_iter();
+        declared.map(|(name, declared)| (name, declared.meaning))
     }
 }

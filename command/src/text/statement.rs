@@ -98,11 +98,12 @@ impl Parser<'_> {
         if rest.iter().any(|token| sides.contains(&token.lexeme)) {
             return names;
         }
-        for Token { lexeme, column } in rest.iter().cloned() {
+        for Token { lexeme, column } in rest {
             match lexeme {
-                Lexeme::Name(name) if self.scope.get(&name).is_none() => {
-                    names.push(Declaration { name, column });
-                }
+                Lexeme::Name(name) if self.scope.get(name).is_none() => names.push(Declaration {
+                    name: name.to_string(),
+                    column: *column,
+                }),
                 _ => {}
             }
         }
@@ -122,12 +123,13 @@ impl Parser<'_> {
     /// A name that is declared here.
     fn declaration(&mut self) -> Parsed<Declaration> {
         let column = self.ahead(0).column;
-        match self.lexeme().clone() {
+        match self.lexeme() {
             Lexeme::Name(name) => {
+                let name = name.to_string();
                 self.at += 1;
                 Ok(Declaration { name, column })
             }
-            Lexeme::Fixed(word) if RESERVED.contains(&word) => {
+            Lexeme::Fixed(word) if RESERVED.contains(word) => {
                 let quotes = quoted(word);
                 self.error(format!(
                     "`{word}` is reserved; as a name it is quoted: `{quotes}`"
@@ -168,10 +170,10 @@ impl Parser<'_> {
 
     /// Whether the line is about roles: a role, or at least no concept, before `then` or `<`.
     fn is_role_axiom(&mut self) -> Parsed<bool> {
-        let Lexeme::Name(name) = self.lexeme() else {
-            return Ok(false);
+        let name = match self.lexeme() {
+            Lexeme::Name(name) if !self.is(1, "some") => name,
+            _ => return Ok(false),
         };
-        let shown = quoted(name);
         let is_role = |meaning| matches!(meaning, Some(Meaning::Role(_)));
         let ends = self.ahead(3).lexeme == Lexeme::End;
         match self.meaning(0) {
@@ -181,9 +183,10 @@ impl Parser<'_> {
                 self.at += 1;
                 self.error("`=` stands between concepts; roles have `<` alone".to_owned())
             }
-            Some(Meaning::Role(_)) if !self.is(1, "some") => {
+            Some(Meaning::Role(_)) => {
+                let wanted = format!("`some`, `then` or `<` after the role `{}`", quoted(name));
                 self.at += 1;
-                self.expected(&format!("`some`, `then` or `<` after the role `{shown}`"))
+                self.expected(&wanted)
             }
             None => Ok(self.is(1, "<") && is_role(self.meaning(2)) && ends),
             _ => Ok(false),
