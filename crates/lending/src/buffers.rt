@@ -11,7 +11,7 @@ const GIVEN: usize = Concept::ROLES * OWN;
 
 const TABLE: usize = Concept::MAX * ROW;
 
-const INDEX: usize = (3 + (Concept::MAX + Concept::MAX)) * ROW;
+const INDEX: usize = (3 + 2 * Concept::ROLES + (Concept::MAX + Concept::MAX)) * ROW;
 
 const TRIPLES: usize = Concept::ROLES * Concept::ROLES * Concept::ROLES / 8;
 
@@ -52,7 +52,7 @@ pub fn table() -> [u8; TABLE]
 
 // A row of what occurs, with room for its index.
 pub fn index() -> [u8; INDEX]
-    ensures { λ r. ⌜ Zero 65728 r ⌝ }
+    ensures { λ r. ⌜ Zero 67776 r ⌝ }
 {
     [0u8; INDEX]
 }

@@ -4,7 +4,7 @@ use Rattle.lending.proofs.buffers.index.Statement.{statement}
 use Rattle.lending.proofs.buffers.index.Tie as tie
 
 returns : tie.Need-returns
-returns c = zeros 65728
+returns c = zeros 67776
 
 pub index-spec : {M : Type 1} → statement M
 index-spec = tie.close (tie.spec returns)
