@@ -7,10 +7,10 @@ use mathlib.Core.Path.{_≡_, sym, ap, _∙_}
 use mathlib.Core.Logic.{_⊎_, inl, inr}
 use mathlib.Core.Bool.{true, false, not, _&&_}
 use mathlib.Core.List.{List}
-use lib.Dec.{ltb, leb}
+use lib.Dec.{ltb}
 use lib.ListN.{length, take, drop}
 use lib.Seq.{length-take-le}
-use borrow.Author.Tests.{lt-ltb, le-leb, not-true}
+use borrow.Author.Tests.{lt-ltb, not-true}
 use Rattle.catalogue.specs.Header.{concepts, roles}
 use Rattle.rows.specs.Bits.{bit, place}
 use Rattle.rows.proofs.Counting.{some-none, none-below}
@@ -18,7 +18,7 @@ use Rattle.booleans.proofs.Booleans.{not-both}
 use Rattle.rules.specs.Axioms.{InRange}
 use Rattle.rules.specs.Rules.{Expression, fact, pair, link, Bounded}
 use Rattle.layout.specs.declared.Shape.{Shape}
-use Rattle.layout.specs.Layout.{shapeOf, rowOf, table, marks, tableLength, blockLength}
+use Rattle.layout.specs.Layout.{shapeOf, rowOf, table, tableLength, blockLength}
 use Rattle.rows.proofs.Places.{place-within, some-factor}
 use Rattle.layout.proofs.Places.{rowOf-below}
 use Rattle.rows.proofs.RowParts.{bit-mid}

@@ -37,7 +37,7 @@ fn both_atomic(b: &[u8], c: usize, d: usize) -> bool
     (first.kind == Concept::ATOMIC) & (second.kind == Concept::ATOMIC)
 }
 
-// 19: do both concepts occur by the axioms in force? Atomic ones do, whatever is in force, so that nothing is marked for them.
+// 19: do both concepts occur by the axioms in force? Atomic ones do, whatever is in force: where both are atomic nothing is marked.
 fn both_occur(b: &[u8], c: usize, d: usize, store: &[u8]) -> bool
     requires { ⌜ Clear (now b) (now store) × (c < concepts (now b)) × (d < concepts (now b)) ⌝ }
     ensures { λ r. ⌜ r ≡ every (occurs (now (b .entry)) (inForce (now (b .entry)) (now (store .entry)))) (c ∷ d ∷ []) ⌝ }

@@ -182,22 +182,12 @@ bytes-setBit row i bs =
     set-bytes row (i / 8) (bitOr (getD row (i / 8) 0) (2 ^ (i % 8))) bs
     (or-lt 8 (getD row (i / 8) 0) (2 ^ (i % 8)) (bs (i / 8)) (power-byte (i % 8) (omega arith)))
 
-pub bytes-clearBit : (row : List ℕ) (i : ℕ) → Bytes row → Bytes (clearBit row i)
-unfolding clearBit
-bytes-clearBit row i bs =
-    set-bytes row (i / 8) (bitAnd (getD row (i / 8) 0) (255 - 2 ^ (i % 8))) bs
-    (and-lt 8 (getD row (i / 8) 0) (255 - 2 ^ (i % 8)) (bs (i / 8)) (omega arith))
-
 bytes-zip : (f : ℕ → ℕ → ℕ) (xs ys : List ℕ) → ((x y : ℕ) → x < 256 → y < 256 → f x y < 256) → Bytes xs → Bytes ys → Bytes (zipRow f xs ys)
 bytes-zip f xs ys each bx by k =
     elim (decLt k (length xs)) [
       | yes l ↦ subst (λ (y : ℕ). y < 256) (sym (getD-zip f xs ys k l)) (each (getD xs k 0) (getD ys k 0) (bx k) (by k))
       | no g ↦ subst (λ (y : ℕ). y < 256) (sym (List·getD-eq-default (zipRow f xs ys) 0 (subst (λ (m : ℕ). m ≤ k) (sym (length-zip f xs ys)) (omega arith)))) (lit< tt)
     ]
-
-pub bytes-orRow : (xs ys : List ℕ) → Bytes xs → Bytes ys → Bytes (orRow xs ys)
-unfolding orRow
-bytes-orRow xs ys bx by = bytes-zip bitOr xs ys (λ x y hx hy. or-lt 8 x y hx hy) bx by
 
 pub bytes-andRow : (xs ys : List ℕ) → Bytes xs → Bytes ys → Bytes (andRow xs ys)
 unfolding andRow

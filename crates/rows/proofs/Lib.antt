@@ -9,3 +9,4 @@ pub mod RowParts
 pub mod Unions
 pub mod Walks
 pub mod Puts
+pub mod Fronts

@@ -1,9 +1,6 @@
 -- `rows::next_below` meets its contract: what the search finds is below n, or nothing is.
-use Prim.Native.Nat.{ℕ, _≤_, _<_}
 use native.Mathlib.Omega.{arith}
-use mathlib.Core.Path.{_≡_, sym, _∙_}
-use Rattle.rows.specs.Next.{nextBit}
-use Rattle.rows.specs.declared.Found.the-variants.{At, Nothing}
+use mathlib.Core.Path.{sym, _∙_}
 use Rattle.rows.proofs.Lowest.{NextAt, at-next, none-next}
 use borrow.Author.Needs.{needs}
 use Rattle.rows.proofs.next_below.Statement.{statement}
