@@ -11,7 +11,7 @@ use std::hint::black_box;
 #[derive(Clone, Copy, Debug, PartialEq)]
 pub enum Side {
     Library,
-    /// The library's method.
+    /// By whole rows, without an index.
     Sweeping,
     /// By indices of what each new bit gives.
     Indexed,

@@ -1,4 +1,4 @@
--- `store::groups_long` meets its contract.
+-- `layout::groups_long` meets its contract.
 use Prim.Native.Nat.{_+_, _*_, _≤_}
 use native.Mathlib.Nat.{mul-le-mul}
 use native.Mathlib.Omega.{arith}

@@ -1,4 +1,4 @@
--- `store::used` meets its contract.
+-- `layout::used` meets its contract.
 use borrow.Author.Needs.{needs}
 use Rattle.layout.specs.Parts.{used}
 use Rattle.layout.proofs.used.Statement.{statement}

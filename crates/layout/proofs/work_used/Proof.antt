@@ -1,4 +1,4 @@
--- `store::work_used` meets its contract.
+-- `layout::work_used` meets its contract.
 use borrow.Author.Needs.{needs}
 use Rattle.layout.specs.Parts.{workUsed}
 use Rattle.layout.proofs.work_used.Statement.{statement}

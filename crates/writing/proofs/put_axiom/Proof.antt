@@ -1,3 +1,4 @@
+-- `writing::put_axiom` meets its contract: two numbers are written.
 use Rattle.store.specs.Written.{setWord}
 use borrow.Author.Needs.{needs}
 use Rattle.writing.proofs.put_axiom.Statement.{statement}
