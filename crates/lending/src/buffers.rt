@@ -2,12 +2,10 @@
 use catalogue::Concept;
 ghost use Rattle.lending.specs.Zero.{Zero};
 
-// A row, the rows of one partition, those for each role, a table, a row with its index; a bit for each three roles.
+// A row, the rows of one partition, a table, a row with its index; a bit for each three roles.
 const ROW: usize = Concept::MAX / 8;
 
 const OWN: usize = (1 + Concept::ROLES) * ROW;
-
-const GIVEN: usize = Concept::ROLES * OWN;
 
 const TABLE: usize = Concept::MAX * ROW;
 
@@ -34,13 +32,6 @@ pub fn own_rows() -> [u8; OWN]
     ensures { λ r. ⌜ Zero 1088 r ⌝ }
 {
     [0u8; OWN]
-}
-
-// The rows of one partition for each role.
-pub fn role_rows() -> [u8; GIVEN]
-    ensures { λ r. ⌜ Zero 17408 r ⌝ }
-{
-    [0u8; GIVEN]
 }
 
 // A row for each concept.
