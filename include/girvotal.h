@@ -29,9 +29,9 @@
  * global variables. Any number of calls may run at once, as long as no buffer that
  * one of them writes is used by another.
  *
- * Stack: girvotal_classify and girvotal_change take at most 384 KiB, girvotal_lookup,
- * girvotal_list and girvotal_row 48 KiB, girvotal_check and girvotal_write 4 KiB,
- * whatever the catalogue.
+ * Stack, measured on the deepest catalogues and rounded up: have 384 KiB for
+ * girvotal_classify and girvotal_change, 48 KiB for girvotal_lookup, girvotal_list
+ * and girvotal_row, 4 KiB for girvotal_check and girvotal_write.
  */
 #ifndef GIRVOTAL_H
 #define GIRVOTAL_H

@@ -8,7 +8,7 @@
 //! - [`Site`] owns the buffers and has the same calls.
 //! - A call that is refused gives a [`Refusal`], and changes no byte of what it was lent.
 //!
-//! Nothing is kept between calls, and a call takes at most 384 KiB of stack.
+//! Nothing is kept between calls. Have 384 KiB of stack for a call: that is measured, and rounded up.
 //!
 //! ```
 //! use girvotal::{Axiom, Builder, Site};
