@@ -19,7 +19,7 @@ use Rattle.classification.specs.Classified.{classifyChecks}
 use Rattle.classification.proofs.Checks.{all-accepted}
 use Rattle.demands.specs.Afresh.{FreshByClassify}
 
-work-same : (b w : List ℕ) → SameRecords b w → workUsed w ≡ workUsed b
+pub work-same : (b w : List ℕ) → SameRecords b w → workUsed w ≡ workUsed b
 unfolding workUsed width
 work-same b w m = ap₂ (λ (n r : ℕ). n * ((n + 7) / 8) * (r + 1)) (m .concepts-same) (m .roles-same)
 

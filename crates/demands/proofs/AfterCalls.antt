@@ -2,9 +2,9 @@
 -- such a list.
 use Prim.Native.Nat.{ℕ}
 use mathlib.Core.Path.{_≡_, refl, sym, ap, subst, _∙_}
-use mathlib.Core.Logic.{⊎-elim}
+use mathlib.Core.Logic.{inl, ⊎-elim}
 use mathlib.Core.List.{List, [], _∷_, _++_, append-nil, List·Memᴰ·not-nil, List·Memᴰ·cases-cons}
-use lib.ListN.{length}
+use lib.ListN.{length, take}
 use lib.Seq.{take-length, drop-length}
 use Rattle.catalogue.specs.Outcome.{accepted}
 use Rattle.rules.specs.Axioms.{Axioms, catalogueAxioms, none}
@@ -14,19 +14,20 @@ use Rattle.classification.specs.Classified.{classifyChecks, Classifies}
 use Rattle.classification.specs.declared.Classified.{Classified}
 use Rattle.classification.proofs.Outcomes.{answer-outcome}
 use Rattle.demands.specs.Sequences.{classify, change, classified, changed, Turn, classifies, changes, RunsOn, nothing, first, Sequence, questions, puts, asked, afterCalls, inForceAfter, AfterCalls}
-use Rattle.demands.proofs.FreshStores.{FreshStore}
+use Rattle.demands.proofs.FreshStores.{FreshStore, fresh-front}
 use Rattle.demands.proofs.DemandThree.{expected-same, after-accepted, sequence-correct}
 
 -- What holds of every fresh store holds after a list of calls.
 pub after-calls : (P : List ℕ → Axioms → List ℕ → Type 0) → ((b : List ℕ) (F : Axioms) (store : List ℕ) → FreshStore b F store → P b F store) → AfterCalls P
-after-calls P f b store t ts last s F e = f b F last (subst (λ (G : Axioms). FreshStore b G last) (sym e) (sequence-correct b store t ts last s .1))
+after-calls P f b store t ts last s F e k long =
+    f b F (take k last) (fresh-front b F last k long (subst (λ (G : Axioms). FreshStore b G last) (sym e) (sequence-correct b store t ts last s .1)))
 
 -- ---- turns that are lent the whole store
 
 unfoldable pub changeTurn : (b gone new : List ℕ) (u : Lent) (answer : Changed) (v : Lent) → Turn
 changeTurn b gone new u answer v =
     record {
-      call = record { request = change gone new; catalogue = b; lent = lengths u };
+      call = record { request = change gone new; catalogue = b; lent = lengths u; from = 0 };
       work = u .work;
       list = u .list;
       answer = changed answer;
@@ -40,7 +41,8 @@ unfolding changeTurn
 change-runs b gone new u answer v call =
     record {
       lent-is = ap (λ (l : List ℕ). record { store = length l; work = length (u .work); list = length (u .list) }) (take-length (u .store));
-      front = v .store;
+      part = inl refl;
+      part-after = v .store;
       contract = changes (subst (λ (s : List ℕ). Edits b gone new (lend s (u .work) (u .list)) answer v) (sym (take-length (u .store))) call);
       store-is = sym (ap (λ (l : List ℕ). v .store ++ l) (drop-length (u .store)) ∙ append-nil (v .store));
     }
@@ -48,7 +50,7 @@ change-runs b gone new u answer v call =
 unfoldable pub classifyTurn : (b store work : List ℕ) (answer : Classified) (store' work' : List ℕ) → Turn
 classifyTurn b store work answer store' work' =
     record {
-      call = record { request = classify; catalogue = b; lent = record { store = length store; work = length work; list = 0 } };
+      call = record { request = classify; catalogue = b; lent = record { store = length store; work = length work; list = 0 }; from = 0 };
       work = work;
       list = [];
       answer = classified answer;
@@ -66,7 +68,8 @@ module _ (b store work : List ℕ) (answer : Classified) (store' work' : List �
   classify-runs =
       record {
         lent-is = ap (λ (l : List ℕ). record { store = length l; work = length work; list = 0 }) (take-length store);
-        front = store';
+        part = inl refl;
+        part-after = store';
         contract = classifies (subst (λ (l : List ℕ). Classifies b l work answer store' work') (sym (take-length store)) call);
         store-is = sym (ap (λ (l : List ℕ). store' ++ l) (drop-length store) ∙ append-nil store');
       }

@@ -24,7 +24,7 @@ use Rattle.writing.specs.Write.{storeChecks, writeChecks, ByOutcome, wrote, sta
 use Rattle.writing.specs.declared.Wrote.{Wrote}
 use Rattle.writing.specs.declared.Wrote.the-variants.{Length}
 use Rattle.demands.specs.Afresh.{ClassifiesAfresh}
-use Rattle.demands.specs.WriteBack.{WriteThenClassify, CallsWriteClassify}
+use Rattle.demands.specs.WriteBack.{WriteThenClassify, WrittenClassifies, CallsWriteClassify}
 use Rattle.demands.proofs.Afresh.{fresh-by-classify}
 use Rattle.demands.proofs.AfterCalls.{after-calls}
 
@@ -68,7 +68,7 @@ written-classifies-alike b store output k output' fresh w =
 
 pub calls-write-classify : CallsWriteClassify
 calls-write-classify =
-    after-calls _
+    after-calls WrittenClassifies
     (λ b F store u output k output' w.
     let own = sym (marked-axioms b F store (u .fresh)) in
     let (afresh, alike) = written-classifies-alike b store output k output' (subst (λ (G : Axioms). Fresh b G store) own (u .fresh)) w in

@@ -24,7 +24,7 @@ use Rattle.lookups.proofs.DemandEntries.{listing-finds}
 use Rattle.sizing.proofs.Answered.{answer-outcome as check-answer}
 use Rattle.demands.specs.PublicCalls.{PublicCall, check, classify, change, lookup, listing, row, write}
 use Rattle.demands.specs.PublicCalls.{Returns, measures, classifies, changes, looks-up, lists, hands-out, writes}
-use Rattle.demands.specs.DemandOne.{Fault, damagedCatalogue, Wrong, refusal, faults, ByFirst, none, here, later, Kept, RefusedFirst, DemandOne}
+use Rattle.demands.specs.DemandOne.{Fault, damagedCatalogue, Wrong, refusal, faults, ByFirst, none, here, later, Kept, RefusedFirst, DemandOne, EmptyTold}
 use Rattle.demands.proofs.AfterCalls.{after-calls}
 use Rattle.demands.proofs.Questions.{check-asked, classify-asked, change-asked, read-asked, listing-asked, write-asked}
 
@@ -156,6 +156,6 @@ pub demand-one : DemandOne
 demand-one =
     record {
       calls = calls;
-      empty-list = after-calls _
+      empty-list = after-calls EmptyTold
           (λ b F store u d list after f. listing-finds b F store (u .catalogue) (u .range) (u .few) (u .fresh) d list _ after f .means .empty .0 refl .2);
     }

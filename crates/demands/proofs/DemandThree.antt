@@ -4,7 +4,7 @@ use Prim.Native.Nat.{ℕ}
 use native.Mathlib.Decide.{ℕ-discrete}
 use native.Mathlib.Omega.{arith}
 use mathlib.Core.Path.{_≡_, refl, sym, ap, subst, subst₂, _∙_}
-use mathlib.Core.List.{List, _∷_, map, List·Memᴰ, List·Memᴰ·head, List·Memᴰ·tail, List-discrete}
+use mathlib.Core.List.{List, _∷_, List·Memᴰ·head, List·Memᴰ·tail, List-discrete}
 use lib.ListN.{take, drop}
 use Rattle.catalogue.specs.Outcome.{Outcome, accepted, refused}
 use Rattle.rules.specs.Axioms.{Axioms, none}
@@ -14,7 +14,7 @@ use Rattle.store.proofs.Fresh.{fresh-unique}
 use Rattle.layout.specs.Parts.{used}
 use Rattle.demands.specs.Afresh.{ClassifiesAfresh}
 use Rattle.demands.specs.Sequences.{classify, Call, outcomeOf, Turn, Ran, nothing, first, Sequence, questions, puts, Expected, asked, otherCatalogue, expectedBy, expected, afterBy, afterCall}
-use Rattle.demands.specs.Sequences.{afterCalls, inForceAfter, Agrees, same, refuses, Correct, AllCorrect, ClassifiedAfresh, DemandThree}
+use Rattle.demands.specs.Sequences.{AcceptedWith, afterCalls, callsOf, inForceAfter, Agrees, same, refuses, Correct, AllCorrect, ClassifiedAfresh, DemandThree}
 use Rattle.demands.proofs.FreshStores.{FreshStore}
 use Rattle.demands.proofs.Afresh.{fresh-by-classify}
 use Rattle.demands.proofs.Turns.{Known, classify-turn, any-turn}
@@ -109,14 +109,10 @@ module _ (b : List ℕ) (F : Axioms) (store : List ℕ) (t : Turn) (known : Know
 
 -- ---- the list
 
--- Every accepted call among these turns got catalogue b.
-AcceptedWith : List ℕ → List Turn → Type 0
-AcceptedWith b ts = (x : Turn) → List·Memᴰ x ts → outcomeOf (x .answer) ≡ accepted → x .call .catalogue ≡ b
-
 -- From a fresh store each turn is correct, and the last store is fresh.
-turns-correct : (b : List ℕ) (F : Axioms) (store : List ℕ) (ts : List Turn) (last : List ℕ) → FreshStore b F store → Ran store ts last → AcceptedWith b ts
-    → AllCorrect b F store ts × FreshStore b (afterCalls b F (map (λ (t : Turn). t .call) ts)) last
-unfolding AcceptedWith afterCalls
+pub turns-correct : (b : List ℕ) (F : Axioms) (store : List ℕ) (ts : List Turn) (last : List ℕ) → FreshStore b F store → Ran store ts last → AcceptedWith b ts
+    → AllCorrect b F store ts × FreshStore b (afterCalls b F (callsOf ts)) last
+unfolding afterCalls
 turns-correct b F store ts last u nothing only = (AllCorrect.nothing, u)
 turns-correct b F store ts last u (first {t = t} {ts = more} x run) only =
     let (correct, kept) = turn-correct b F store t (any-turn b F store u t x) (only t (List·Memᴰ·head refl)) u in
@@ -126,7 +122,7 @@ turns-correct b F store ts last u (first {t = t} {ts = more} x run) only =
 -- The first is accepted, and so the others begin from a fresh store.
 run-correct : (b store : List ℕ) (t : Turn) (ts : List Turn) (last : List ℕ) → Ran store (t ∷ ts) last → AcceptedWith b (t ∷ ts)
     → t .call .request ≡ classify → outcomeOf (t .answer) ≡ accepted → AllCorrect b none store (t ∷ ts) × FreshStore b (inForceAfter b (t ∷ ts)) last
-unfolding AcceptedWith afterCalls inForceAfter
+unfolding afterCalls inForceAfter
 run-correct b store t ts last (first x run) only begins ok =
     let (correct, kept) = accepted-turn b none store t (classify-turn b none store t x begins) (only t (List·Memᴰ·head refl)) ok in
     let (others, ended) = turns-correct b (afterCall b none (t .call)) (t .store-after) ts last kept run (λ s m. only s (List·Memᴰ·tail m)) in
@@ -134,11 +130,10 @@ run-correct b store t ts last (first x run) only begins ok =
 
 pub sequence-correct : (b store : List ℕ) (t : Turn) (ts : List Turn) (last : List ℕ) → Sequence b store t ts last
     → AllCorrect b none store (t ∷ ts) × FreshStore b (inForceAfter b (t ∷ ts)) last
-unfolding AcceptedWith
 sequence-correct b store t ts last s = run-correct b store t ts last (s .ran) (s .one-catalogue) (s .begins) (s .begins-accepted)
 
 -- A store that is classified afresh is so to the byte.
-classified-afresh : (b : List ℕ) (F : Axioms) (store : List ℕ) → FreshStore b F store → ClassifiedAfresh b F store
+pub classified-afresh : (b : List ℕ) (F : Axioms) (store : List ℕ) → FreshStore b F store → ClassifiedAfresh b F store
 classified-afresh b F store u =
     let afresh : ClassifiesAfresh b F (written b F) = fresh-by-classify b F (u .catalogue) (u .range) (u .few) in
     let bytes : (other : List ℕ) → Fresh b F other → take (used b) store ≡ take (used b) other =

@@ -3,6 +3,7 @@
 use Prim.Native.Nat.{ℕ}
 use mathlib.Core.Path.{sym, ap, subst, _∙_}
 use mathlib.Core.List.{List}
+use lib.ListN.{take}
 use Rattle.rules.specs.Axioms.{Axioms}
 use Rattle.store.specs.Written.{written}
 use Rattle.store.proofs.WrittenBack.{written-back}
@@ -16,9 +17,9 @@ use Rattle.lookups.proofs.DemandLookup.{lookup-means, occurring-answered}
 use Rattle.lookups.proofs.DemandEntries.{listing-finds}
 use Rattle.lookups.proofs.DemandRow.{row-means}
 use Rattle.lookups.proofs.DemandAtomic.{atomic-means}
-use Rattle.demands.specs.WriteBack.{WritesOut, CallsThenWriteBack}
+use Rattle.demands.specs.WriteBack.{WritesOut, WritesBack, CallsThenWriteBack}
 use Rattle.demands.specs.DemandTwo.{Meant, DemandTwo}
-use Rattle.demands.proofs.FreshStores.{FreshStore, classify-leaves}
+use Rattle.demands.proofs.FreshStores.{FreshStore, classify-leaves, fresh-front}
 use Rattle.demands.proofs.AfterCalls.{after-calls}
 
 module _ (b : List ℕ) (F : Axioms) (store : List ℕ) (u : FreshStore b F store) where
@@ -52,14 +53,14 @@ module _ (b : List ℕ) (F : Axioms) (store : List ℕ) (u : FreshStore b F stor
 pub demand-two : DemandTwo
 demand-two =
     record {
-      classified = λ b store work a store' work' call ok.
-          meant b _ store' (classify-leaves b store work a store' work' call (sym (answer-outcome b store work a store' work' call) ∙ ok));
+      classified = λ b store work a store' work' call ok k long.
+          meant b _ (take k store') (fresh-front b _ store' k long (classify-leaves b store work a store' work' call (sym (answer-outcome b store work a store' work' call) ∙ ok)));
       edited = after-calls Meant meant;
     }
 
 pub calls-then-write-back : CallsThenWriteBack
 calls-then-write-back =
-    after-calls _
+    after-calls WritesBack
     (λ b F store u bytes own output answer output' w.
     subst (λ (c : List ℕ). WritesOut c output answer output') (ap (written b) own ∙ written-back b (u .catalogue) bytes)
     (writes-out b F store u output answer output' w))

@@ -1,12 +1,13 @@
 -- A list of calls by the contracts, so that what demand 3 asks can be met: W1 is classified, (1, 5) is withdrawn (W3), the same is refused with a catalogue of
--- 19 bytes and then as not in force, it is added back (W5), and one change moves it: (1, 5) out and (0, 6) in.
+-- 19 bytes, with ten bytes from the middle of the store, and then as not in force, it is added back (W5), and one change moves it: (1, 5) out and (0, 6) in.
+-- And the catalogue that is written then.
 use Prim.Native.Nat.{ℕ, _≤_}
 use native.Mathlib.Omega.{arith}
 use mathlib.Core.Path.{_≡_, refl, sym, subst, _∙_}
 use mathlib.Core.Bool.{false}
-use mathlib.Core.Logic.{⊎-elim}
+use mathlib.Core.Logic.{inr, ⊎-elim}
 use mathlib.Core.List.{List, [], _∷_, List·Memᴰ, List·Memᴰ·not-nil, List·Memᴰ·cases-cons}
-use lib.ListN.{length, drop, replicate}
+use lib.ListN.{length, take, drop, replicate}
 use Rattle.catalogue.specs.Words.{word, bytesOf}
 use Rattle.catalogue.specs.Header.{concepts, roles}
 use Rattle.catalogue.specs.Outcome.{accepted, refused}
@@ -14,7 +15,8 @@ use Rattle.catalogue.specs.Examples.{w1}
 use Rattle.catalogue.proofs.Examples.{w1-well-formed, nineteen-bytes}
 use Rattle.rules.specs.Axioms.{Axioms, InRange}
 use Rattle.layout.specs.Parts.{width, used, workUsed}
-use Rattle.store.specs.Written.{axiomCount}
+use Rattle.store.specs.Checks.{storeFits}
+use Rattle.store.specs.Written.{axiomCount, written}
 use Rattle.store.specs.Fresh.{Fresh}
 use Rattle.store.specs.Work.{zeroed}
 use Rattle.store.proofs.Examples.{w1-lengths, w1-axiom-count}
@@ -23,7 +25,7 @@ use Rattle.classification.specs.declared.Classified.the-variants as classifying
 use Rattle.edits.specs.Lists.{edited}
 use Rattle.edits.specs.Edits.{Lent, lend, asked, Edits}
 use Rattle.edits.specs.declared.Changed.the-variants.{Done, Refused}
-use Rattle.edits.proofs.Asking.{refused-catalogue}
+use Rattle.edits.proofs.Asking.{refused-catalogue, refused-store}
 use Rattle.edits.proofs.Checks.{asked-by-axioms}
 use Rattle.edits.proofs.Outcomes.{ends-refused, ends-fresh}
 use Rattle.worked.specs.Stores.{w1Store, w3Store}
@@ -36,7 +38,8 @@ use Rattle.worked.proofs.Reading.{w3-axiom-count, seven}
 use Rattle.worked.proofs.W1.{range1}
 use Rattle.worked.proofs.W3.{w3-asks, w5-asks}
 use Rattle.worked.proofs.Moves.{move1-asks}
-use Rattle.demands.specs.Sequences.{outcomeOf, Turn, nothing, first, Sequence}
+use Rattle.demands.specs.Sequences.{change, changed, outcomeOf, Turn, changes, RunsOn, nothing, first, Sequence, inForceAfter}
+use Rattle.demands.specs.GoingOn.{listed, rewritten, Reached}
 use Rattle.demands.proofs.AfterCalls.{changeTurn, change-runs, classifyTurn, classify-runs}
 use Rattle.demands.proofs.Examples.{w1-asked, w1-classifies, w1Turn}
 
@@ -130,6 +133,41 @@ bad-edits : Edits (replicate 19 0) axiom15 [] (lent w3Store) (Refused 1 0) (lent
 unfolding asked
 bad-edits = ends-refused (replicate 19 0) axiom15 [] (lent w3Store) 1 0 (refused-catalogue (replicate 19 0) axiom15 [] _ _ _ _ (nineteen-bytes (replicate 19 0) refl))
 
+-- Refused by 10, with bytes 5 to 14 of the store.
+middle : List ℕ
+middle = take 10 (drop 5 w3Store)
+
+middle-short : storeFits w1 10 ≡ false
+unfolding storeFits used width concepts roles word w1
+middle-short = refl
+
+middle-edits : Edits w1 axiom15 [] (lent middle) (Refused 10 0) (lent middle)
+unfolding asked lent middle w3Store
+middle-edits = ends-refused w1 axiom15 [] (lent middle) 10 0 (refused-store w1 axiom15 [] _ _ _ _ (worked .W1-accepted) middle-short)
+
+unfoldable pub middleTurn : Turn
+middleTurn =
+    record {
+      call = record { request = change axiom15 []; catalogue = w1; lent = record { store = 10; work = 28; list = 14 }; from = 5 };
+      work = replicate 28 0;
+      list = replicate 14 0;
+      answer = changed (Refused 10 0);
+      work-after = replicate 28 0;
+      list-after = replicate 14 0;
+      store-after = w3Store;
+    }
+
+middle-runs : RunsOn w3Store middleTurn
+unfolding middleTurn middle lent w3Store
+middle-runs =
+    record {
+      lent-is = refl;
+      part = inr (omega (arith, w1-lengths .0));
+      part-after = middle;
+      contract = changes middle-edits;
+      store-is = refl;
+    }
+
 absent-asks : listsAsked w1 axiom15 [] axioms3 ≡ refused 18 0
 unfolding listsAsked w1
 absent-asks = refl
@@ -157,6 +195,7 @@ unfoldable pub later : List Turn
 later =
     changeTurn w1 axiom15 [] (lent w1Store) (Done 10 0 0 4) (left w3Store)
     ∷ changeTurn (replicate 19 0) axiom15 [] (lent w3Store) (Refused 1 0) (lent w3Store)
+    ∷ middleTurn
     ∷ changeTurn w1 axiom15 [] (lent w3Store) (Refused 18 0) (lent w3Store)
     ∷ changeTurn w1 [] axiom15 (lent w3Store) (Done 0 0 10 4) (left w1Store)
     ∷ changeTurn w1 axiom15 axiom06 (lent w1Store) (Done 10 3 0 4) (left movedStore)
@@ -167,7 +206,7 @@ member : (P : Turn → Type 0) (t : Turn) (ts : List Turn) → P t → ((x : Tur
 member P t ts p more x m = ⊎-elim (λ e. subst P (sym e) p) (more x) (List·Memᴰ·cases-cons m)
 
 pub w1-sequence : Sequence w1 (replicate 35 0) w1Turn later movedStore
-unfolding later lent left changeTurn classifyTurn
+unfolding later lent left changeTurn classifyTurn middleTurn
 w1-sequence =
     let P : Turn → Type 0 = λ x. outcomeOf (x .answer) ≡ accepted → x .call .catalogue ≡ w1 in
     record {
@@ -175,9 +214,10 @@ w1-sequence =
           first (classify-runs w1 (replicate 35 0) (replicate 28 0) (classifying.Done 14 7) w1Store (replicate 28 0) w1-classifies w1-asked)
           (first (change-runs w1 axiom15 [] (lent w1Store) (Done 10 0 0 4) (left w3Store) w3-edits)
           (first (change-runs (replicate 19 0) axiom15 [] (lent w3Store) (Refused 1 0) (lent w3Store) bad-edits)
+          (first middle-runs
           (first (change-runs w1 axiom15 [] (lent w3Store) (Refused 18 0) (lent w3Store) absent-edits)
           (first (change-runs w1 [] axiom15 (lent w3Store) (Done 0 0 10 4) (left w1Store) w5-edits)
-          (first (change-runs w1 axiom15 axiom06 (lent w1Store) (Done 10 3 0 4) (left movedStore) move-edits) nothing)))));
+          (first (change-runs w1 axiom15 axiom06 (lent w1Store) (Done 10 3 0 4) (left movedStore) move-edits) nothing))))));
       begins = refl;
       begins-accepted = refl;
       one-catalogue =
@@ -185,5 +225,10 @@ w1-sequence =
           (member P _ _ (λ o. refl)
           (member P _ _ (λ o. let z : _≡_ {A = ℕ} 0 1 = cc in absurd (omega arith))
           (member P _ _ (λ o. refl)
-          (member P _ _ (λ o. refl) (member P _ _ (λ o. refl) (λ x m. absurd (List·Memᴰ·not-nil m)))))));
+          (member P _ _ (λ o. refl)
+          (member P _ _ (λ o. refl) (member P _ _ (λ o. refl) (λ x m. absurd (List·Memᴰ·not-nil m))))))));
     }
+
+-- Going on from there with the catalogue that write gives.
+pub w1-reached : Reached (written w1 (inForceAfter w1 (w1Turn ∷ later))) (inForceAfter w1 (w1Turn ∷ later)) movedStore
+w1-reached = rewritten (listed w1-sequence)

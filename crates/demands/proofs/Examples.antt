@@ -72,16 +72,17 @@ w1-alone-axioms = classify-alone-axioms w1 (replicate 35 0) (replicate 28 0) (Do
 
 -- W2: (0, 3) yes, so that 0 lies within 3 in every finite interpretation; (3, 0) no, and one shows otherwise.
 pub w2-means : Entails w1 (catalogueAxioms w1) 0 3 × Refuted w1 (catalogueAxioms w1) 3 0
+unfolding w1Store
 w2-means =
     let after : (c d : ℕ) (r : Looked) → r ≡ lookedUp w1 c d w1Store → LookupMeans w1 (catalogueAxioms w1) c d r =
-    demand-two .edited w1 (replicate 35 0) w1Turn [] w1Store w1-alone (catalogueAxioms w1) w1-alone-axioms .lookups
+    demand-two .edited w1 (replicate 35 0) w1Turn [] w1Store w1-alone (catalogueAxioms w1) w1-alone-axioms 35 (worked .W1-fresh .long) .lookups
     in
     let (found, missed) = worked .W2-lookups w1Store (worked .W1-fresh) in
     (after 0 3 Yes (sym found) .yes-means .0 refl .2, after 3 0 No (sym missed) .no-means .0 refl .2)
 
 -- Into 80 bytes W1 is written back, and classify of it leaves the same used part.
 pub w1-alike : ClassifiesAlike w1 w1Store w1
-unfolding w1
+unfolding w1 w1Store
 w1-alike =
     let back : Writes w1 w1Store (replicate 80 0) (Length 80) w1 = w1-writes w1Store (worked .W1-fresh) (replicate 80 0) (lit≤ tt) in
-    calls-write-classify w1 (replicate 35 0) w1Turn [] w1Store w1-alone (catalogueAxioms w1) w1-alone-axioms (replicate 80 0) 80 w1 back .1
+    calls-write-classify w1 (replicate 35 0) w1Turn [] w1Store w1-alone (catalogueAxioms w1) w1-alone-axioms 35 (worked .W1-fresh .long) (replicate 80 0) 80 w1 back .1

@@ -9,3 +9,4 @@ pub mod DemandTwo
 pub mod ClassifyWritten
 pub mod Examples
 pub mod ExampleList
+pub mod GoingOn

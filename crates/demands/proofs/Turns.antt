@@ -4,19 +4,18 @@ use Prim.Native.Nat.{ℕ, _≤_}
 use native.Mathlib.Omega.{arith}
 use mathlib.Core.Path.{_≡_, refl, sym, ap, subst, subst₂, _∙_}
 use mathlib.Core.Bool.{Bool, true}
+use mathlib.Core.Logic.{⊎-elim}
 use mathlib.Core.List.{List, _++_}
-use lib.ListN.{length, take, drop, length-take, take-append-drop}
-use lib.Seq.{take-take, drop-append-le}
+use lib.ListN.{length, take, drop, take-append-drop}
+use lib.Seq.{drop-append-le}
 use Rattle.booleans.proofs.Booleans.{by-bool}
 use Rattle.catalogue.specs.Outcome.{accepted, refused}
 use Rattle.rules.specs.Axioms.{Axioms, InRange, catalogueAxioms}
-use Rattle.rules.specs.Rules.{Expression, Closure}
 use Rattle.layout.specs.Parts.{used, inForce, spareClear}
-use Rattle.store.specs.Fresh.{Marked, Fresh}
+use Rattle.store.specs.Fresh.{Fresh}
 use Rattle.store.specs.Checks.{storeFits, axiomsInLimit}
 use Rattle.store.specs.Written.{axiomCount}
 use Rattle.store.proofs.Checks.{store-long, marked-axioms}
-use Rattle.store.proofs.Stored.{marked-used, marked-append}
 use Rattle.classification.specs.Classified.{classifyChecks, Classifies}
 use Rattle.classification.specs.declared.Classified.{Classified}
 use Rattle.classification.proofs.Checks.{accepted-fits}
@@ -31,14 +30,18 @@ use Rattle.edits.proofs.Outcomes.{answer-outcome as change-answer}
 use Rattle.edits.proofs.Fresh.{edit-fresh, edit-effects}
 use Rattle.edits.proofs.Kept.{pair-row-kept, link-row-kept}
 use Rattle.demands.specs.Sequences.{Request, classify, change, Answer, classified, changed, outcomeOf, Turn, Meets, classifies, changes, lentTo, RunsOn, questions, puts, Changes}
-use Rattle.demands.proofs.FreshStores.{FreshStore, classify-leaves}
+use Rattle.demands.proofs.FreshStores.{FreshStore, classify-leaves, fresh-append, fresh-front}
 
--- ---- a store lent from its front
+-- ---- the part of the store that is lent
+
+-- A part that stays leaves the store as it was.
+whole : (store part : List ℕ) (a k : ℕ) → part ≡ take k (drop a store) → take a store ++ (part ++ drop k (drop a store)) ≡ store
+whole store part a k e =
+    ap (λ (l : List ℕ). take a store ++ (l ++ drop k (drop a store))) e
+    ∙ ap (λ (l : List ℕ). take a store ++ l) (take-append-drop k (drop a store))
+    ∙ take-append-drop a store
 
 module _ (b store front : List ℕ) (k : ℕ) where
-  whole : front ≡ take k store → front ++ drop k store ≡ store
-  whole e = ap (λ (l : List ℕ). l ++ drop k store) e ∙ take-append-drop k store
-
   rest-kept : used b ≤ length front → used b ≤ length (take k store) → drop (used b) front ≡ drop (used b) (take k store)
       → drop (used b) (front ++ drop k store) ≡ drop (used b) store
   rest-kept lf lt e =
@@ -47,10 +50,41 @@ module _ (b store front : List ℕ) (k : ℕ) where
       ∙ sym (drop-append-le (used b) (take k store) (drop k store) lt)
       ∙ ap (drop (used b)) (take-append-drop k store)
 
--- A front that is long enough marks what the store does.
-marked-front : (b : List ℕ) (F : Axioms) (S : Expression → Type 0) (store : List ℕ) (k : ℕ) → used b ≤ length (take k store) → Marked b F S store → Marked b F S (take k store)
-marked-front b F S store k long p =
-    marked-used b F S store (take k store) (sym (take-take (used b) k store (omega (arith, length-take k store)))) long p
+-- A call that is lent the store from its front.
+record Front (store : List ℕ) (t : Turn) (x : RunsOn store t) : Type 0 where
+  lent-is : lentTo t store .store ≡ take (t .call .lent .store) store
+  left-is : t .store-after ≡ x .part-after ++ drop (t .call .lent .store) store
+
+-- A part that is long enough for the catalogue is lent from the front.
+module _ (b store : List ℕ) (t : Turn) (x : RunsOn store t) (same : t .call .catalogue ≡ b) (long : used b ≤ length (lentTo t store .store)) where
+  at-front : Front store t x
+  at-front =
+      let lent : length (lentTo t store .store) ≡ t .call .lent .store = ap (λ (u : Lengths). u .store) (x .lent-is) in
+      let asks : used (t .call .catalogue) ≡ used b = ap used same in
+      let zero : t .call .from ≡ 0 = ⊎-elim (λ e. e) (λ short. absurd (omega (arith, short, long, lent, asks))) (x .part) in
+      record {
+        lent-is = ap (λ (a : ℕ). take (t .call .lent .store) (drop a store)) zero;
+        left-is =
+            x .store-is
+            ∙ ap (λ (a : ℕ). take a store ++ (x .part-after ++ drop (t .call .lent .store) (drop a store))) zero;
+      }
+
+  front-long : used b ≤ length (take (t .call .lent .store) store)
+  front-long = subst (λ (l : List ℕ). used b ≤ length l) (at-front .lent-is) long
+
+  -- What it leaves there is followed by the rest of the store.
+  rest-left : used b ≤ length (x .part-after) → drop (used b) (x .part-after) ≡ drop (used b) (lentTo t store .store)
+      → drop (used b) (t .store-after) ≡ drop (used b) store
+  rest-left lp e =
+      ap (drop (used b)) (at-front .left-is)
+      ∙ rest-kept b store (x .part-after) (t .call .lent .store) lp front-long (e ∙ ap (drop (used b)) (at-front .lent-is))
+
+  fresh-left : (F : Axioms) → FreshStore b F (x .part-after) → FreshStore b F (t .store-after)
+  fresh-left F u = subst (FreshStore b F) (sym (at-front .left-is)) (fresh-append b F (x .part-after) (drop (t .call .lent .store) store) u)
+
+  -- Lent from a fresh store it is fresh.
+  fresh-lent : (F : Axioms) → FreshStore b F store → Fresh b F (lentTo t store .store)
+  fresh-lent F u = subst (Fresh b F) (sym (at-front .lent-is)) (fresh-front b F store (t .call .lent .store) front-long u .fresh)
 
 -- ---- what is known of a turn
 
@@ -63,29 +97,18 @@ pub record Known (b : List ℕ) (F : ℕ → ℕ → Bool) (store : List ℕ) (t
   pub changes : t .call .catalogue ≡ b → outcomeOf (t .answer) ≡ accepted → (gone new : List ℕ) → t .call .request ≡ change gone new
       → Changes b F (edited F gone new) store t
 
--- The rest of the store changes nothing.
-fresh-append : (b : List ℕ) (F : Axioms) (xs ys : List ℕ) → FreshStore b F xs → FreshStore b F (xs ++ ys)
-fresh-append b F xs ys u =
-    record {
-      catalogue = u .catalogue;
-      well-formed = u .well-formed;
-      range = u .range;
-      few = u .few;
-      fresh = marked-append b F (Closure b F) xs ys (u .fresh);
-    }
-
 -- ---- classify
 
 module _ (b : List ℕ) (F : Axioms) (store : List ℕ) (t : Turn) (x : RunsOn store t) (a : Classified) (request : t .call .request ≡ classify) (answer : t .answer ≡ classified a)
-    (call : Classifies (t .call .catalogue) (take (t .call .lent .store) store) (t .work) a (x .front) (t .work-after)) where
+    (call : Classifies (t .call .catalogue) (lentTo t store .store) (t .work) a (x .part-after) (t .work-after)) where
   classify-answers : outcomeOf (t .answer) ≡ classifyChecks (t .call .catalogue) (length (lentTo t store .store)) (length (t .work))
-  classify-answers = ap outcomeOf answer ∙ answer-outcome (t .call .catalogue) (lentTo t store .store) (t .work) a (x .front) (t .work-after) call
+  classify-answers = ap outcomeOf answer ∙ answer-outcome (t .call .catalogue) (lentTo t store .store) (t .work) a (x .part-after) (t .work-after) call
 
   classify-known : Known b F store t
   unfolding questions puts
   classify-known =
-      let with-b : t .call .catalogue ≡ b → Classifies b (lentTo t store .store) (t .work) a (x .front) (t .work-after) =
-      λ e. subst (λ (c : List ℕ). Classifies c (lentTo t store .store) (t .work) a (x .front) (t .work-after)) e call
+      let with-b : t .call .catalogue ≡ b → Classifies b (lentTo t store .store) (t .work) a (x .part-after) (t .work-after) =
+      λ e. subst (λ (c : List ℕ). Classifies c (lentTo t store .store) (t .work) a (x .part-after) (t .work-after)) e call
       in
       let same : t .call .catalogue ≡ b → outcomeOf (t .answer) ≡ classifyChecks b (length (lentTo t store .store)) (length (t .work)) =
       λ e. classify-answers ∙ ap (λ (c : List ℕ). classifyChecks c (length (lentTo t store .store)) (length (t .work))) e
@@ -95,39 +118,41 @@ module _ (b : List ℕ) (F : Axioms) (store : List ℕ) (t : Turn) (x : RunsOn s
             same e
             ∙ ap (λ (u : Lengths). classifyChecks b (u .store) (u .work)) (x .lent-is)
             ∙ sym (ap (λ (q : Request). questions q b (t .call .lent) F) request);
-        keeps = λ number at o. x .store-is ∙ whole b store (x .front) (t .call .lent .store) (call .refuses number at (sym classify-answers ∙ o) .store-kept);
+        keeps = λ number at o.
+            x .store-is ∙ whole store (x .part-after) (t .call .from) (t .call .lent .store) (call .refuses number at (sym classify-answers ∙ o) .store-kept);
         rest = λ e o.
             let ok = sym (same e) ∙ o in
             let r = with-b e .accepts ok in
-            ap (drop (used b)) (x .store-is) ∙ rest-kept b store (x .front) (t .call .lent .store) (r .fresh .long) (accepted-fits b _ _ ok .store-long) (r .store-rest);
+            rest-left b store t x e (accepted-fits b _ _ ok .store-long) (r .fresh .long) (r .store-rest);
         leaves = λ e o.
-            let left : FreshStore b (catalogueAxioms b) (x .front) = classify-leaves b (lentTo t store .store) (t .work) a (x .front) (t .work-after) (with-b e) (sym (same e) ∙ o) in
+            let ok = sym (same e) ∙ o in
+            let left : FreshStore b (catalogueAxioms b) (x .part-after) = classify-leaves b (lentTo t store .store) (t .work) a (x .part-after) (t .work-after) (with-b e) ok in
             subst (λ (q : Request). FreshStore b (puts q b F) (t .store-after)) (sym request)
-            (subst (FreshStore b (catalogueAxioms b)) (sym (x .store-is)) (fresh-append b (catalogueAxioms b) (x .front) (drop (t .call .lent .store) store) left));
+            (fresh-left b store t x e (accepted-fits b _ _ ok .store-long) (catalogueAxioms b) left);
         changes = λ e o gone new q. let z : _≡_ {A = ℕ} 0 1 = cc in absurd (omega arith);
       }
 
 -- ---- change
 
--- On the front of a fresh store a change asks what it asks by arguments alone: a front that is too short is refused by 10, and a longer one is fresh.
-front-asked : (b : List ℕ) (F : Axioms) (store : List ℕ) → FreshStore b F store → (t : Turn) → RunsOn store t → (gone new : List ℕ)
+-- On a part of a fresh store a change asks what it asks by arguments alone: one that is too short is refused by 10, and a longer one is fresh.
+part-asked : (b : List ℕ) (F : Axioms) (store : List ℕ) → FreshStore b F store → (t : Turn) → RunsOn store t → t .call .catalogue ≡ b → (gone new : List ℕ)
     → askedOf b gone new (lentTo t store) ≡ changeChecks b gone new (t .call .lent) true true F
 unfolding askedOf
-front-asked b F store u t x gone new =
-    let front = take (t .call .lent .store) store in
+part-asked b F store u t x same gone new =
+    let part = lentTo t store .store in
     let lent = lengths (lentTo t store) in
-    by-bool (storeFits b (length front))
-    (λ e. asked-by-axioms b F gone new (lentTo t store) (marked-front b F (Closure b F) store (t .call .lent .store) (store-long b _ e) (u .fresh)) (u .few))
+    by-bool (storeFits b (length part))
+    (λ e. asked-by-axioms b F gone new (lentTo t store) (fresh-lent b store t x same (store-long b _ e) F u) (u .few))
     (λ e.
-    refused-store b gone new lent (spareClear b front) (axiomsInLimit b (inForce b front)) (inForce b front) (u .catalogue) e
+    refused-store b gone new lent (spareClear b part) (axiomsInLimit b (inForce b part)) (inForce b part) (u .catalogue) e
     ∙ sym (refused-store b gone new lent true true F (u .catalogue) e))
     ∙ ap (λ (q : Lengths). changeChecks b gone new q true true F) (x .lent-is)
 
 module _ (b : List ℕ) (F : Axioms) (store : List ℕ) (u : FreshStore b F store) (t : Turn) (x : RunsOn store t) (gone new : List ℕ) (a : Changed)
     (request : t .call .request ≡ change gone new) (answer : t .answer ≡ changed a)
-    (call : Edits (t .call .catalogue) gone new (lentTo t store) a (lend (x .front) (t .work-after) (t .list-after))) where
+    (call : Edits (t .call .catalogue) gone new (lentTo t store) a (lend (x .part-after) (t .work-after) (t .list-after))) where
   abbrev left : Lent
-  left = lend (x .front) (t .work-after) (t .list-after)
+  left = lend (x .part-after) (t .work-after) (t .list-after)
 
   change-answers : outcomeOf (t .answer) ≡ askedOf (t .call .catalogue) gone new (lentTo t store)
   change-answers = ap outcomeOf answer ∙ change-answer (t .call .catalogue) gone new (lentTo t store) a left call
@@ -141,7 +166,7 @@ module _ (b : List ℕ) (F : Axioms) (store : List ℕ) (u : FreshStore b F stor
     asked-b = change-answers ∙ ap (λ (c : List ℕ). askedOf c gone new (lentTo t store)) same
 
     by-arguments : outcomeOf (t .answer) ≡ changeChecks b gone new (t .call .lent) true true F
-    by-arguments = asked-b ∙ front-asked b F store u t x gone new
+    by-arguments = asked-b ∙ part-asked b F store u t x same gone new
 
     module _ (o : outcomeOf (t .answer) ≡ accepted) where
       ok : askedOf b gone new (lentTo t store) ≡ accepted
@@ -150,21 +175,20 @@ module _ (b : List ℕ) (F : Axioms) (store : List ℕ) (u : FreshStore b F stor
       passed : Accepted b gone new (lentTo t store)
       passed = edit-accepted b gone new (lentTo t store) ok
 
-      front-fresh : Fresh b F (lentTo t store .store)
-      front-fresh = marked-front b F (Closure b F) store (t .call .lent .store) (passed .store-fits) (u .fresh)
+      part-fresh : Fresh b F (lentTo t store .store)
+      part-fresh = fresh-lent b store t x same (passed .store-fits) F u
 
       change-leaves : FreshStore b (edited F gone new) (t .store-after)
       change-leaves =
-          let own : inForce b (lentTo t store .store) ≡ F = marked-axioms b F (lentTo t store .store) front-fresh in
-          subst (FreshStore b (edited F gone new)) (sym (x .store-is))
-          (fresh-append b (edited F gone new) (x .front) (drop (t .call .lent .store) store)
+          let own : inForce b (lentTo t store .store) ≡ F = marked-axioms b F (lentTo t store .store) part-fresh in
+          fresh-left b store t x same (passed .store-fits) (edited F gone new)
           (record {
             catalogue = u .catalogue;
             well-formed = u .well-formed;
             range = subst (λ (E : Axioms). InRange b (edited E gone new)) own (passed .after-range);
             few = subst (λ (E : Axioms). axiomCount b (edited E gone new) ≤ 4096) own (passed .after-few);
-            fresh = edit-fresh b gone new (lentTo t store) a left with-b ok F front-fresh;
-          }))
+            fresh = edit-fresh b gone new (lentTo t store) a left with-b ok F part-fresh;
+          })
 
       change-effects : Changes b F (edited F gone new) store t
       change-effects =
@@ -175,7 +199,7 @@ module _ (b : List ℕ) (F : Axioms) (store : List ℕ) (u : FreshStore b F stor
             answer = a;
             names = with-b .accepts ok .names;
             answer-is = answer;
-            effects = edit-effects b gone new (lentTo t store) a left with-b ok F front-fresh;
+            effects = edit-effects b gone new (lentTo t store) a left with-b ok F part-fresh;
             list-is = with-b .accepts ok .list-is;
             others = λ c lc out.
                 record {
@@ -189,10 +213,9 @@ module _ (b : List ℕ) (F : Axioms) (store : List ℕ) (u : FreshStore b F stor
   change-known =
       record {
         answers = λ e. by-arguments e ∙ sym (ap (λ (q : Request). questions q b (t .call .lent) F) request);
-        keeps = λ number at o. x .store-is ∙ whole b store (x .front) (t .call .lent .store) (call .refuses number at (sym change-answers ∙ o) .store-kept);
-        rest = λ e o.
-            ap (drop (used b)) (x .store-is)
-            ∙ rest-kept b store (x .front) (t .call .lent .store) (with-b e .accepts (ok e o) .marked .long) (passed e o .store-fits) (with-b e .accepts (ok e o) .store-rest);
+        keeps = λ number at o.
+            x .store-is ∙ whole store (x .part-after) (t .call .from) (t .call .lent .store) (call .refuses number at (sym change-answers ∙ o) .store-kept);
+        rest = λ e o. rest-left b store t x e (passed e o .store-fits) (with-b e .accepts (ok e o) .marked .long) (with-b e .accepts (ok e o) .store-rest);
         leaves = λ e o. subst (λ (q : Request). FreshStore b (puts q b F) (t .store-after)) (sym request) (change-leaves e o);
         changes = λ e o gone' new' q.
             let eg : gone ≡ gone' = cc in
@@ -206,7 +229,7 @@ module _ (b : List ℕ) (F : Axioms) (store : List ℕ) (u : FreshStore b F stor
 pub classify-turn : (b : List ℕ) (F : Axioms) (store : List ℕ) (t : Turn) → RunsOn store t → t .call .request ≡ classify → Known b F store t
 classify-turn b F store t x request = go (t .call .request) (t .answer) (x .contract) request refl
   where
-    go : (q : Request) (y : Answer) → Meets (t .call .catalogue) (lentTo t store) (lend (x .front) (t .work-after) (t .list-after)) q y → q ≡ classify → t .answer ≡ y
+    go : (q : Request) (y : Answer) → Meets (t .call .catalogue) (lentTo t store) (lend (x .part-after) (t .work-after) (t .list-after)) q y → q ≡ classify → t .answer ≡ y
         → Known b F store t
     go classify (classified a) (classifies c) e f = classify-known b F store t x a request f c
     go (change gone new) (changed a) (changes c) e f = let z : _≡_ {A = ℕ} 0 1 = cc in absurd (omega arith)
@@ -214,7 +237,7 @@ classify-turn b F store t x request = go (t .call .request) (t .answer) (x .cont
 pub any-turn : (b : List ℕ) (F : Axioms) (store : List ℕ) → FreshStore b F store → (t : Turn) → RunsOn store t → Known b F store t
 any-turn b F store u t x = go (t .call .request) (t .answer) (x .contract) refl refl
   where
-    go : (q : Request) (y : Answer) → Meets (t .call .catalogue) (lentTo t store) (lend (x .front) (t .work-after) (t .list-after)) q y → t .call .request ≡ q → t .answer ≡ y
+    go : (q : Request) (y : Answer) → Meets (t .call .catalogue) (lentTo t store) (lend (x .part-after) (t .work-after) (t .list-after)) q y → t .call .request ≡ q → t .answer ≡ y
         → Known b F store t
     go classify (classified a) (classifies c) e f = classify-known b F store t x a e f c
     go (change gone new) (changed a) (changes c) e f = change-known b F store u t x gone new a e f c

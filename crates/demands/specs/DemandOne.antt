@@ -10,6 +10,7 @@ use Rattle.catalogue.specs.Header.{total, concepts}
 use Rattle.catalogue.specs.Outcome.{Outcome, accepted, refused}
 use Rattle.catalogue.specs.Checks.{checked}
 use Rattle.catalogue.specs.WellFormed.{WellFormed}
+use Rattle.rules.specs.Axioms.{Axioms}
 use Rattle.rules.specs.Occurrence.{Occurs}
 use Rattle.layout.specs.Parts.{width, used, workUsed, inForce, rowCount}
 use Rattle.store.specs.Work.{workAfter}
@@ -120,8 +121,12 @@ pub record RefusedFirst (b : List ℕ) (u : Lent) (c : PublicCall) (o : Outcome)
   -- "All else is accepted, ends, and answers."
   pub all-else : ((f : Fault) → List·Memᴰ f (faults c) → ¬ (Wrong b u f)) → o ≡ accepted
 
+-- An empty list: no kind that occurs lies under d.
+abbrev pub EmptyTold : List ℕ → Axioms → List ℕ → Type 0
+EmptyTold b F store = (d : ℕ) (list after : List ℕ) → Lists b d store list (Count 0) after → (c : ℕ) → ¬ (KindUnder b F d c)
+
 -- Demand 1.
 pub record DemandOne : Type 0 where
   pub calls : (b : List ℕ) (u : Lent) (c : PublicCall) (o : Outcome) (v : Lent) → Returns b u c o v → RefusedFirst b u c o v
   -- "From a store as in demand 3, an empty list comes only when no kind that occurs meets the wish."
-  pub empty-list : AfterCalls (λ b F store. (d : ℕ) (list after : List ℕ) → Lists b d store list (Count 0) after → (c : ℕ) → ¬ (KindUnder b F d c))
+  pub empty-list : AfterCalls EmptyTold

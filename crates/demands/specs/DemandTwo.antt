@@ -26,7 +26,7 @@ use Rattle.lookups.specs.declared.pairs.Looked.{Looked}
 use Rattle.lookups.specs.declared.pairs.Looked.the-variants.{Yes, No}
 use Rattle.lookups.specs.declared.kinds.Listed.{Listed}
 use Rattle.lookups.specs.declared.handing.Handed.{Handed}
-use Rattle.demands.specs.Sequences.{AfterCalls}
+use Rattle.demands.specs.Sequences.{EachFront, AfterCalls}
 use Rattle.demands.specs.WriteBack.{WritesOut}
 
 -- A store, by the axioms F in force.
@@ -56,7 +56,7 @@ pub record Meant (b : List ℕ) (F : ℕ → ℕ → Bool) (store : List ℕ) : 
 abbrev pub AfterClassify : (List ℕ → Axioms → List ℕ → Type 0) → Type 0
 AfterClassify P =
     (b store work : List ℕ) (a : Classified) (store' work' : List ℕ) → Classifies b store work a store' work' → outcomeOf a ≡ accepted
-    → P b (catalogueAxioms b) store'
+    → EachFront b store' (P b (catalogueAxioms b))
 
 -- Demand 2.
 pub record DemandTwo : Type 0 where

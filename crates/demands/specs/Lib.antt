@@ -4,3 +4,4 @@ pub mod PublicCalls
 pub mod DemandOne
 pub mod WriteBack
 pub mod DemandTwo
+pub mod GoingOn

@@ -1,11 +1,12 @@
 -- Classify and change in a row on one store (document 01, Edits in a row; document 02, request Four): what it is for a list of calls to have run, the axioms
 -- in force by the calls' arguments alone (document 01: the book), and demand 3, one claim about every such list.
-use Prim.Native.Nat.{ℕ, _<_}
+use Prim.Native.Nat.{ℕ, _≤_, _<_}
 use native.Mathlib.Decide.{ℕ-discrete}
 use mathlib.Core.Path.{_≡_}
 use mathlib.Core.Bool.{Bool, true}
+use mathlib.Core.Logic.{_⊎_}
 use mathlib.Core.List.{List, [], _∷_, _++_, map, List·Memᴰ, List-discrete}
-use lib.ListN.{take, drop}
+use lib.ListN.{length, take, drop}
 use Rattle.catalogue.specs.Header.{concepts, roles}
 use Rattle.catalogue.specs.Outcome.{Outcome, accepted, refused}
 use Rattle.rules.specs.Axioms.{Axioms, catalogueAxioms, none}
@@ -31,11 +32,13 @@ pub data Request : Type 0 where
   classify : Request
   change : (gone new : List ℕ) → Request
 
--- The arguments of a call: its lists of axioms, the catalogue, and of each buffer its length alone.
+-- The arguments of a call: its lists of axioms, the catalogue, and of each buffer its length alone; and the byte of the store at which the part begins that
+-- it is lent, which no question reads.
 pub record Call : Type 0 where
   pub request : Request
   pub catalogue : List ℕ
   pub lent : Lengths
+  pub from : ℕ
 
 pub data Answer : Type 0 where
   classified : Classified → Answer
@@ -62,21 +65,30 @@ pub data Meets (b : List ℕ) (u v : Lent) : Request → Answer → Type 0 where
   classifies : {a : Classified} → Classifies b (u .store) (u .work) a (v .store) (v .work) → Meets b u v classify (classified a)
   changes : {gone new : List ℕ} {a : Changed} → Edits b gone new u a v → Meets b u v (change gone new) (changed a)
 
--- The store is lent from its front, as long as the call says.
+-- The part of the store that a call is lent, as long as it says.
 abbrev pub lentTo : Turn → List ℕ → Lent
-lentTo t store = lend (take (t .call .lent .store) store) (t .work) (t .list)
+lentTo t store = lend (take (t .call .lent .store) (drop (t .call .from) store)) (t .work) (t .list)
+
+-- From its front; or any part that is too short for the call's catalogue.
+abbrev pub FrontOrShort : Call → Type 0
+FrontOrShort c = (c .from ≡ 0) ⊎ (c .lent .store < used (c .catalogue))
 
 -- A turn with this store before it: what is lent is as long as the call says, the call met its contract, and the rest of the store stays.
 pub record RunsOn (store : List ℕ) (t : Turn) : Type 0 where
   pub lent-is : lengths (lentTo t store) ≡ t .call .lent
-  pub front : List ℕ
-  pub contract : Meets (t .call .catalogue) (lentTo t store) (lend front (t .work-after) (t .list-after)) (t .call .request) (t .answer)
-  pub store-is : t .store-after ≡ front ++ drop (t .call .lent .store) store
+  pub part : FrontOrShort (t .call)
+  pub part-after : List ℕ
+  pub contract : Meets (t .call .catalogue) (lentTo t store) (lend part-after (t .work-after) (t .list-after)) (t .call .request) (t .answer)
+  pub store-is : t .store-after ≡ take (t .call .from) store ++ (part-after ++ drop (t .call .lent .store) (drop (t .call .from) store))
 
 -- Turns in a row from one store to another, each with the store as the one before left it.
 pub data Ran : List ℕ → List Turn → List ℕ → Type 0 where
   nothing : {store : List ℕ} → Ran store [] store
   first : {store last : List ℕ} {t : Turn} {ts : List Turn} → RunsOn store t → Ran (t .store-after) ts last → Ran store (t ∷ ts) last
+
+-- Every accepted call among these turns got catalogue b.
+abbrev pub AcceptedWith : List ℕ → List Turn → Type 0
+AcceptedWith b ts = (x : Turn) → List·Memᴰ x ts → outcomeOf (x .answer) ≡ accepted → x .call .catalogue ≡ b
 
 -- A list as in demand 3, turn t and then ts: it begins with an accepted classify on a store of any content, and every accepted call got catalogue b. A
 -- refused one may have come with any.
@@ -84,7 +96,7 @@ pub record Sequence (b store : List ℕ) (t : Turn) (ts : List Turn) (last : Lis
   pub ran : Ran store (t ∷ ts) last
   pub begins : t .call .request ≡ classify
   pub begins-accepted : outcomeOf (t .answer) ≡ accepted
-  pub one-catalogue : (x : Turn) → List·Memᴰ x (t ∷ ts) → outcomeOf (x .answer) ≡ accepted → x .call .catalogue ≡ b
+  pub one-catalogue : AcceptedWith b (t ∷ ts)
 
 -- ---- the axioms in force by arguments alone
 
@@ -125,8 +137,11 @@ afterCalls b F [] = F
 afterCalls b F (c ∷ cs) = afterCalls b (afterCall b F c) cs
 
 -- After the calls of a list: none are in force before it.
+abbrev pub callsOf : List Turn → List Call
+callsOf ts = map (λ (t : Turn). t .call) ts
+
 unfoldable pub inForceAfter : List ℕ → List Turn → Axioms
-inForceAfter b ts = afterCalls b none (map (λ (t : Turn). t .call) ts)
+inForceAfter b ts = afterCalls b none (callsOf ts)
 
 -- ---- what holds of the list
 
@@ -183,7 +198,12 @@ DemandThree =
     (b store : List ℕ) (t : Turn) (ts : List Turn) (last : List ℕ) → Sequence b store t ts last
     → AllCorrect b none store (t ∷ ts) × ClassifiedAfresh b (inForceAfter b (t ∷ ts)) last
 
--- After every such list: P of the catalogue, of the axioms F then in force, and of the store that is left.
+-- P of every front of a store that is long enough, the whole among them: what a later call is lent.
+abbrev pub EachFront : List ℕ → List ℕ → (List ℕ → Type 0) → Type 0
+EachFront b store P = (k : ℕ) → used b ≤ length (take k store) → P (take k store)
+
+-- After every such list: P of the catalogue, of the axioms F then in force, and of the store that is left, or a front of it.
 abbrev pub AfterCalls : (List ℕ → Axioms → List ℕ → Type 0) → Type 0
 AfterCalls P =
-    (b store : List ℕ) (t : Turn) (ts : List Turn) (last : List ℕ) → Sequence b store t ts last → (F : Axioms) → F ≡ inForceAfter b (t ∷ ts) → P b F last
+    (b store : List ℕ) (t : Turn) (ts : List Turn) (last : List ℕ) → Sequence b store t ts last → (F : Axioms) → F ≡ inForceAfter b (t ∷ ts)
+    → EachFront b last (P b F)

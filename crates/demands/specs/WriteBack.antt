@@ -4,7 +4,7 @@ use mathlib.Core.Path.{_≡_}
 use mathlib.Core.List.{List, _++_}
 use lib.ListN.{length, take, drop}
 use Rattle.rows.specs.Bits.{Bytes}
-use Rattle.rules.specs.Axioms.{catalogueAxioms}
+use Rattle.rules.specs.Axioms.{Axioms, catalogueAxioms}
 use Rattle.layout.specs.Parts.{inForce}
 use Rattle.store.specs.Fresh.{Fresh}
 use Rattle.writing.specs.Write.{Writes}
@@ -22,12 +22,13 @@ pub record WritesOut (w output : List ℕ) (answer : Wrote) (output' : List ℕ)
   pub short : length output < length w → (answer ≡ writes.Refused 20 0) × (output' ≡ output)
 
 -- Where the axioms in force are the catalogue's own, as after a classify, it gives back the catalogue itself, which as a lent slice is made of bytes.
-abbrev pub CallsThenWriteBack : Type 0
-CallsThenWriteBack =
-    AfterCalls
-    (λ b F store.
+abbrev pub WritesBack : List ℕ → Axioms → List ℕ → Type 0
+WritesBack b F store =
     Bytes b → F ≡ catalogueAxioms b → (output : List ℕ) (answer : Wrote) (output' : List ℕ) → Writes b store output answer output'
-    → WritesOut b output answer output')
+    → WritesOut b output answer output'
+
+abbrev pub CallsThenWriteBack : Type 0
+CallsThenWriteBack = AfterCalls WritesBack
 
 -- ---- classify of what was written
 
@@ -38,9 +39,10 @@ WriteThenClassify =
     (b store output : List ℕ) (k : ℕ) (output' : List ℕ) → Fresh b (inForce b store) store → Writes b store output (writes.Length k) output'
     → ClassifiesAfresh b (inForce b store) (take k output') × ClassifiesAlike b store (take k output')
 
-abbrev pub CallsWriteClassify : Type 0
-CallsWriteClassify =
-    AfterCalls
-    (λ b F store.
+abbrev pub WrittenClassifies : List ℕ → Axioms → List ℕ → Type 0
+WrittenClassifies b F store =
     (output : List ℕ) (k : ℕ) (output' : List ℕ) → Writes b store output (writes.Length k) output'
-    → ClassifiesAfresh b F (take k output') × ClassifiesAlike b store (take k output'))
+    → ClassifiesAfresh b F (take k output') × ClassifiesAlike b store (take k output')
+
+abbrev pub CallsWriteClassify : Type 0
+CallsWriteClassify = AfterCalls WrittenClassifies

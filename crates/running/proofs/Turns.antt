@@ -3,7 +3,7 @@ use Prim.Native.Nat.{ℕ, zero, suc, _+_, _*_, _≤_, _<_}
 use native.Mathlib.Omega.{arith}
 use mathlib.Core.Path.{_≡_, refl, sym, ap, ap₂, subst, _∙_}
 use mathlib.Core.Bool.{true}
-use mathlib.Core.Logic.{⊎-elim}
+use mathlib.Core.Logic.{inl, ⊎-elim}
 use mathlib.Core.List.{List, [], _∷_, _++_, map, map-append, append-nil, flatMap, nil≢cons, head-eq-of-cons-eq, tail-eq-of-cons-eq}
 use mathlib.Core.List.{List·Memᴰ, List·Memᴰ·not-nil, List·Memᴰ·cases-cons}
 use lib.ListN.{length, take, drop, length-drop}
@@ -76,7 +76,8 @@ module _ (b calls : List ℕ) (k : ℕ) (u v w : Space) (kept : Kept u v) (x : A
       let whole : take (length (u .store)) (v .store) ≡ v .store = whole-lent (v .store) (length (u .store)) (kept .store-long) in
       record {
         lent-is = lengths-are (ap length whole ∙ kept .store-long) (kept .work-long) part-long;
-        front = w .store;
+        part = inl refl;
+        part-after = w .store;
         contract =
             subst (λ (s : List ℕ). Meets b (lend s (v .work) (turn .list)) (lend (w .store) (w .work) (x .list)) (requestAt calls k) (turn .answer)) (sym whole)
             (x .answers .meets);

@@ -35,12 +35,12 @@ record SameAfter (t t' : Turn) : Type 0 where
 turn-unique : (store : List ℕ) (t t' : Turn) → RunsOn store t → RunsOn store t' → t .call ≡ t' .call → t .work ≡ t' .work → t .list ≡ t' .list
     → (t .call .request ≡ classify → t .list-after ≡ t .list) → (t' .call .request ≡ classify → t' .list-after ≡ t' .list) → SameAfter t t'
 turn-unique store t t' x x' call work list k k' =
-    let left = lend (x .front) (t .work-after) (t .list-after) in
-    let left' = lend (x' .front) (t' .work-after) (t' .list-after) in
-    let met : Meets (t .call .catalogue) (lend (take (t .call .lent .store) store) (t .work) (t .list)) left' (t .call .request) (t' .answer) =
-    subst (λ (c : Call). Meets (c .catalogue) (lend (take (c .lent .store) store) (t .work) (t .list)) left' (c .request) (t' .answer)) (sym call)
-    (subst (λ (w : List ℕ). Meets (t' .call .catalogue) (lend (take (t' .call .lent .store) store) w (t .list)) left' (t' .call .request) (t' .answer)) (sym work)
-    (subst (λ (l : List ℕ). Meets (t' .call .catalogue) (lend (take (t' .call .lent .store) store) (t' .work) l) left' (t' .call .request) (t' .answer)) (sym list)
+    let left = lend (x .part-after) (t .work-after) (t .list-after) in
+    let left' = lend (x' .part-after) (t' .work-after) (t' .list-after) in
+    let met : Meets (t .call .catalogue) (lend (take (t .call .lent .store) (drop (t .call .from) store)) (t .work) (t .list)) left' (t .call .request) (t' .answer) =
+    subst (λ (c : Call). Meets (c .catalogue) (lend (take (c .lent .store) (drop (c .from) store)) (t .work) (t .list)) left' (c .request) (t' .answer)) (sym call)
+    (subst (λ (w : List ℕ). Meets (t' .call .catalogue) (lend (take (t' .call .lent .store) (drop (t' .call .from) store)) w (t .list)) left' (t' .call .request) (t' .answer)) (sym work)
+    (subst (λ (l : List ℕ). Meets (t' .call .catalogue) (lend (take (t' .call .lent .store) (drop (t' .call .from) store)) (t' .work) l) left' (t' .call .request) (t' .answer)) (sym list)
     (x' .contract)))
     in
     let kept : t .call .request ≡ classify → t' .list-after ≡ t .list = λ e. k' (sym (ap (λ (c : Call). c .request) call) ∙ e) ∙ sym list in
@@ -49,7 +49,7 @@ turn-unique store t t' x x' call work list k k' =
       answer = answer;
       store =
           x .store-is
-          ∙ ap₂ (λ (front : List ℕ) (n : ℕ). front ++ drop n store) (ap (λ (l : Lent). l .store) after) (ap (λ (c : Call). c .lent .store) call)
+          ∙ ap₂ (λ (part : List ℕ) (c : Call). take (c .from) store ++ (part ++ drop (c .lent .store) (drop (c .from) store))) (ap (λ (l : Lent). l .store) after) call
           ∙ sym (x' .store-is);
       work = ap (λ (l : Lent). l .work) after;
       list = ap (λ (l : Lent). l .list) after;

@@ -55,7 +55,7 @@ pub record AnswersAt (b calls : List ℕ) (k : ℕ) (u v : Space) : Type 0 where
 
 -- The arguments of each call.
 abbrev pub callOf : List ℕ → Space → Request → Call
-callOf b u q = record { request = q; catalogue = b; lent = record { store = length (u .store); work = length (u .work); list = 1024 } }
+callOf b u q = record { request = q; catalogue = b; lent = record { store = length (u .store); work = length (u .work); list = 1024 }; from = 0 }
 
 -- The work space goes from each turn to the next, and a classify leaves its list as it was.
 pub data PassedOn : List ℕ → List Turn → List ℕ → Type 0 where

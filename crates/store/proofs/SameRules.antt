@@ -67,14 +67,14 @@ module _ (b b' : List ℕ) (m : SameRecords b b') where
   occurs-there F wf range (right-side f) = right-side f
   occurs-there F wf range (part {i} o p) = part (occurs-there F wf range o) (part-same (occurs-below b F wf range i o) p)
 
-  range-there : (F : Axioms) → InRange b F → InRange b' F
-  range-there F range c d f = let r = range c d f in (subst (λ n. c < n) (sym (m .concepts-same)) (r .0), subst (λ n. d < n) (sym (m .concepts-same)) (r .1))
+  pub range-same : (F : Axioms) → InRange b F → InRange b' F
+  range-same F range c d f = let r = range c d f in (subst (λ n. c < n) (sym (m .concepts-same)) (r .0), subst (λ n. d < n) (sym (m .concepts-same)) (r .1))
 
 -- What occurs.
 pub occurs-same : (b b' : List ℕ) (F : Axioms) → SameRecords b b' → WellFormed b → WellFormed b' → InRange b F → occurs b F ≡ occurs b' F
 occurs-same b b' F m wf wf' range =
     let exact = occurs-exact b F wf range in
-    let range' = range-there b b' m F range in
+    let range' = range-same b b' m F range in
     let exact' = occurs-exact b' F wf' range' in
     exact-unique b F (occurs b F) (occurs b' F) exact
     (λ c. (λ e. occurs-there b' b (same-sym b b' m) F wf' range' (exact' c .0 e), λ o. exact' c .1 (occurs-there b b' m F wf range o)))
@@ -186,12 +186,15 @@ marked-same b b' F S T store m st p =
       bytes = λ i l. p .bytes i (subst (λ n. i < n) u l);
     }
 
--- Classified afresh from F with the catalogue that has F as its axioms, or with the catalogue: it is the same.
+-- Classified afresh from F with one of them or with the other: it is the same.
+pub fresh-same : (b b' : List ℕ) (F : Axioms) (store : List ℕ) → SameRecords b b' → WellFormed b → WellFormed b' → InRange b F → Fresh b F store ↔ Fresh b' F store
+fresh-same b b' F store m wf wf' range =
+    let c = closure-same b b' F m wf wf' range in (
+      marked-same b b' F (Closure b F) (Closure b' F) store m c,
+      marked-same b' b F (Closure b' F) (Closure b F) store (same-sym b b' m) (λ e. (c e .1, c e .0)),
+    )
+
+-- So with the catalogue that has F as its axioms.
 pub fresh-written : (b : List ℕ) (F : Axioms) (store : List ℕ) → WellFormed b → InRange b F → axiomCount b F ≤ 4096 → Fresh b F store ↔ Fresh (written b F) F store
 fresh-written b F store wf range few =
-    let m = written-same b F wf in
-    let wf' = written-well-formed b F wf few in
-    let c = closure-same b (written b F) F m wf wf' range in (
-      marked-same b (written b F) F (Closure b F) (Closure (written b F) F) store m c,
-      marked-same (written b F) b F (Closure (written b F) F) (Closure b F) store (same-sym b (written b F) m) (λ e. (c e .1, c e .0)),
-    )
+    fresh-same b (written b F) F store (written-same b F wf) wf (written-well-formed b F wf few) range
