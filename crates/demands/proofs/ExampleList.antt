@@ -28,16 +28,17 @@ use Rattle.edits.specs.declared.Changed.the-variants.{Done, Refused}
 use Rattle.edits.proofs.Asking.{refused-catalogue, refused-store}
 use Rattle.edits.proofs.Checks.{asked-by-axioms}
 use Rattle.edits.proofs.Outcomes.{ends-refused, ends-fresh}
-use Rattle.worked.specs.Stores.{w1Store, w3Store}
-use Rattle.worked.specs.Entries.{Changed}
-use Rattle.worked.specs.Table.{axioms1, axioms3, moved1}
+use Rattle.worked_w1_w6.specs.Stores.{w1Store, w3Store}
+use Rattle.worked_common.specs.Entries.{Changed}
+use Rattle.worked_w1_w6.specs.Table.{axioms1, axioms3}
+use Rattle.worked_w1_moves.specs.Table.{moved1}
 use Rattle.worked.proofs.Worked.{worked}
-use Rattle.worked.proofs.Stores.{otherAxiom, otherExpression, otherByte, fresh-computed}
-use Rattle.worked.proofs.Editing.{listsAsked, asked-of-lists, changed-in-range, change-asked}
-use Rattle.worked.proofs.Reading.{w3-axiom-count, seven}
-use Rattle.worked.proofs.W1.{range1}
-use Rattle.worked.proofs.W3.{w3-asks, w5-asks}
-use Rattle.worked.proofs.Moves.{move1-asks}
+use Rattle.worked_common.proofs.Stores.{otherAxiom, otherExpression, otherByte, fresh-computed}
+use Rattle.worked_common.proofs.Editing.{listsAsked, asked-of-lists, changed-in-range, change-asked}
+use Rattle.worked_w1_w6.proofs.Reading.{w3-axiom-count, seven}
+use Rattle.worked_w1_w6.proofs.W1.{range1}
+use Rattle.worked_w1_w6.proofs.W3.{w3-asks, w5-asks}
+use Rattle.worked_w1_moves.proofs.Moves.{move1-asks}
 use Rattle.demands.specs.Sequences.{change, changed, outcomeOf, Turn, changes, RunsOn, nothing, first, Sequence, inForceAfter}
 use Rattle.demands.specs.GoingOn.{listed, rewritten, Reached}
 use Rattle.demands.proofs.AfterCalls.{changeTurn, change-runs, classifyTurn, classify-runs}
@@ -101,7 +102,7 @@ module _ (gone new : List ℕ) (F : Axioms) (asks : listsAsked w1 gone new F ≡
   accepted-asked : asked w1 gone new (lent store) ≡ accepted
   unfolding lent
   accepted-asked =
-      change-asked w1 gone new F asks (worked .W1-accepted) few (lent store) fresh (omega (arith, w1-lengths .1)) (omega (arith, seven))
+      change-asked w1 gone new F asks (worked .W1-to-W6 .W1-accepted) few (lent store) fresh (omega (arith, w1-lengths .1)) (omega (arith, seven))
 
   accepted-edits : (x y z : ℕ) (broken gaining after : List ℕ) → Changed w1 F (edited F gone new) x y z broken gaining (0 ∷ 1 ∷ 4 ∷ 5 ∷ [])
       → Fresh w1 (edited F gone new) after → drop 35 after ≡ drop 35 store → Edits w1 gone new (lent store) (Done x y z 4) (left after)
@@ -126,7 +127,7 @@ module _ (gone new : List ℕ) (F : Axioms) (asks : listsAsked w1 gone new F ≡
 
 w3-edits : Edits w1 axiom15 [] (lent w1Store) (Done 10 0 0 4) (left w3Store)
 unfolding w1Store w3Store
-w3-edits = accepted-edits axiom15 [] axioms1 w3-asks few1 w1Store (worked .W1-fresh) 10 0 0 _ _ w3Store (worked .W3) (worked .W3-fresh) refl
+w3-edits = accepted-edits axiom15 [] axioms1 w3-asks few1 w1Store (worked .W1-to-W6 .W1-fresh) 10 0 0 _ _ w3Store (worked .W1-to-W6 .W3) (worked .W1-to-W6 .W3-fresh) refl
 
 -- Refused by 1, with 19 bytes as the catalogue; and by 18.
 bad-edits : Edits (replicate 19 0) axiom15 [] (lent w3Store) (Refused 1 0) (lent w3Store)
@@ -143,7 +144,7 @@ middle-short = refl
 
 middle-edits : Edits w1 axiom15 [] (lent middle) (Refused 10 0) (lent middle)
 unfolding asked lent middle w3Store
-middle-edits = ends-refused w1 axiom15 [] (lent middle) 10 0 (refused-store w1 axiom15 [] _ _ _ _ (worked .W1-accepted) middle-short)
+middle-edits = ends-refused w1 axiom15 [] (lent middle) 10 0 (refused-store w1 axiom15 [] _ _ _ _ (worked .W1-to-W6 .W1-accepted) middle-short)
 
 unfoldable pub middleTurn : Turn
 middleTurn =
@@ -176,18 +177,18 @@ absent-edits : Edits w1 axiom15 [] (lent w3Store) (Refused 18 0) (lent w3Store)
 unfolding lent w3Store
 absent-edits =
     ends-refused w1 axiom15 [] (lent w3Store) 18 0
-    (asked-by-axioms w1 axioms3 axiom15 [] (lent w3Store) (worked .W3-fresh) few3
-    ∙ asked-of-lists w1 axiom15 [] axioms3 _ (refused 18 0) absent-asks (worked .W1-accepted) (omega (arith, w1-lengths .0)) (omega (arith, w1-lengths .1)) (omega (arith, seven)))
+    (asked-by-axioms w1 axioms3 axiom15 [] (lent w3Store) (worked .W1-to-W6 .W3-fresh) few3
+    ∙ asked-of-lists w1 axiom15 [] axioms3 _ (refused 18 0) absent-asks (worked .W1-to-W6 .W1-accepted) (omega (arith, w1-lengths .0)) (omega (arith, w1-lengths .1)) (omega (arith, seven)))
 
 w5-edits : Edits w1 [] axiom15 (lent w3Store) (Done 0 0 10 4) (left w1Store)
 unfolding w1Store w3Store
 w5-edits =
-    accepted-edits [] axiom15 axioms3 w5-asks few3 w3Store (worked .W3-fresh) 0 0 10 _ _ w1Store (worked .W5)
-    (subst (λ (F : Axioms). Fresh w1 F w1Store) (sym (worked .W5-back .0)) (worked .W1-fresh)) refl
+    accepted-edits [] axiom15 axioms3 w5-asks few3 w3Store (worked .W1-to-W6 .W3-fresh) 0 0 10 _ _ w1Store (worked .W1-to-W6 .W5)
+    (subst (λ (F : Axioms). Fresh w1 F w1Store) (sym (worked .W1-to-W6 .W5-back .0)) (worked .W1-to-W6 .W1-fresh)) refl
 
 move-edits : Edits w1 axiom15 axiom06 (lent w1Store) (Done 10 3 0 4) (left movedStore)
 unfolding w1Store movedStore
-move-edits = accepted-edits axiom15 axiom06 axioms1 move1-asks few1 w1Store (worked .W1-fresh) 10 3 0 _ _ movedStore (worked .W1-move1) moved-fresh refl
+move-edits = accepted-edits axiom15 axiom06 axioms1 move1-asks few1 w1Store (worked .W1-to-W6 .W1-fresh) 10 3 0 _ _ movedStore (worked .W1-moves .W1-move1) moved-fresh refl
 
 -- ---- the list
 

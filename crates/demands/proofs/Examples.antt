@@ -24,8 +24,8 @@ use Rattle.classification.specs.declared.Classified.the-variants.{Done}
 use Rattle.classification.specs.Classified.{classifyChecks, Classifies}
 use Rattle.classification.proofs.Checks.{all-accepted}
 use Rattle.edits.specs.Edits.{lend}
-use Rattle.worked.specs.Stores.{w1Store}
-use Rattle.worked.proofs.Reading.{w1-writes}
+use Rattle.worked_w1_w6.specs.Stores.{w1Store}
+use Rattle.worked_w1_w6.proofs.Reading.{w1-writes}
 use Rattle.worked.proofs.Worked.{worked}
 use Rattle.demands.specs.Afresh.{ClassifiesAlike}
 use Rattle.demands.specs.Sequences.{Turn, Sequence, inForceAfter}
@@ -37,7 +37,7 @@ use Rattle.demands.proofs.ClassifyWritten.{calls-write-classify}
 -- 35 bytes of store and 28 of work space are long enough.
 pub w1-asked : classifyChecks w1 35 28 ≡ accepted
 unfolding w1 word concepts roles width used workUsed storeFits workFits
-w1-asked = all-accepted w1 35 28 (worked .W1-accepted) refl refl
+w1-asked = all-accepted w1 35 28 (worked .W1-to-W6 .W1-accepted) refl refl
 
 -- W1: 14 pairs and 7 links, and the table's store.
 pub w1-classifies : Classifies w1 (replicate 35 0) (replicate 28 0) (Done 14 7) w1Store (replicate 28 0)
@@ -48,9 +48,9 @@ w1-classifies =
       accepts = λ _.
           record {
             answers = refl;
-            pairs-counted = worked .W1 .pairs-right;
-            links-counted = worked .W1 .links-right;
-            fresh = worked .W1-fresh;
+            pairs-counted = worked .W1-to-W6 .W1 .pairs-right;
+            links-counted = worked .W1-to-W6 .W1 .links-right;
+            fresh = worked .W1-to-W6 .W1-fresh;
             store-rest = refl;
             work-zero = refl;
           };
@@ -75,14 +75,14 @@ pub w2-means : Entails w1 (catalogueAxioms w1) 0 3 × Refuted w1 (catalogueAxiom
 unfolding w1Store
 w2-means =
     let after : (c d : ℕ) (r : Looked) → r ≡ lookedUp w1 c d w1Store → LookupMeans w1 (catalogueAxioms w1) c d r =
-    demand-two .edited w1 (replicate 35 0) w1Turn [] w1Store w1-alone (catalogueAxioms w1) w1-alone-axioms 35 (worked .W1-fresh .long) .lookups
+    demand-two .edited w1 (replicate 35 0) w1Turn [] w1Store w1-alone (catalogueAxioms w1) w1-alone-axioms 35 (worked .W1-to-W6 .W1-fresh .long) .lookups
     in
-    let (found, missed) = worked .W2-lookups w1Store (worked .W1-fresh) in
+    let (found, missed) = worked .W1-to-W6 .W2-lookups w1Store (worked .W1-to-W6 .W1-fresh) in
     (after 0 3 Yes (sym found) .yes-means .0 refl .2, after 3 0 No (sym missed) .no-means .0 refl .2)
 
 -- Into 80 bytes W1 is written back, and classify of it leaves the same used part.
 pub w1-alike : ClassifiesAlike w1 w1Store w1
 unfolding w1 w1Store
 w1-alike =
-    let back : Writes w1 w1Store (replicate 80 0) (Length 80) w1 = w1-writes w1Store (worked .W1-fresh) (replicate 80 0) (lit≤ tt) in
-    calls-write-classify w1 (replicate 35 0) w1Turn [] w1Store w1-alone (catalogueAxioms w1) w1-alone-axioms 35 (worked .W1-fresh .long) (replicate 80 0) 80 w1 back .1
+    let back : Writes w1 w1Store (replicate 80 0) (Length 80) w1 = w1-writes w1Store (worked .W1-to-W6 .W1-fresh) (replicate 80 0) (lit≤ tt) in
+    calls-write-classify w1 (replicate 35 0) w1Turn [] w1Store w1-alone (catalogueAxioms w1) w1-alone-axioms 35 (worked .W1-to-W6 .W1-fresh .long) (replicate 80 0) 80 w1 back .1

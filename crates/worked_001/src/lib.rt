@@ -1,0 +1,1 @@
+// Document 001's examples, proved about the definitions.

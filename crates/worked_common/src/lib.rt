@@ -1,0 +1,1 @@
+// What the worked examples are said and computed by.

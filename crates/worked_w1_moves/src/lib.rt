@@ -1,0 +1,1 @@
+// Moves of W1, proved about the definitions.

@@ -1,0 +1,4 @@
+pub mod W7
+pub mod Move
+pub mod Calls
+pub mod Table

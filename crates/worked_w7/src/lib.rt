@@ -1,0 +1,1 @@
+// Worked example W7, proved about the definitions.

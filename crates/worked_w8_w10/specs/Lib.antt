@@ -1,0 +1,4 @@
+pub mod Catalogues
+pub mod Stores
+pub mod Full
+pub mod Table
