@@ -1,6 +1,6 @@
 //! Expected outputs of programs. A program crate NAME is run on
-//! `crates/NAME/stdin` (nothing where there is no such file), and must write
-//! what `crates/NAME/stdout` holds.
+//! `crates/NAME/stdin` (nothing where there is no such file) or on the files of
+//! `crates/NAME/data` in turn, and must write what `crates/NAME/stdout` holds.
 
 use crate::edits;
 use crate::fixed;
@@ -13,36 +13,35 @@ use std::fs;
 use std::io;
 use std::path::Path;
 
-/// Makes a program's standard output from its standard input.
+/// Makes what a program writes from a file that it reads.
 pub type Output = fn(&[u8]) -> String;
 
+/// A program's standard input.
+const STDIN: &[&str] = &["stdin"];
+
 /// The program crates, one line each.
-pub const PROGRAMS: &[(&str, Output)] = &[
-    // crate, and what it prints
-    ("listing", listing::text),
-    ("gate_listing_empty", listing::text),
-    ("gate_listing_long", listing::text),
-    ("gate_listing_many", listing::text),
-    ("gate_listing_refused", listing::text),
-    ("gate_listing_wide", listing::text),
-    ("gate_rows", rows::text),
-    ("gate_catalogue", programs::gate_catalogue),
-    ("gate_structure", fixed::gate_structure),
-    ("gate_store", fixed::gate_store),
-    ("gate_classification", programs::gate_classification),
-    ("gate_lookups", programs::gate_lookups),
-    ("gate_calls", programs::gate_calls),
-    ("gate_edits", edits::text),
-    ("gate_running", running::text),
+pub const PROGRAMS: &[(&str, &[&str], Output)] = &[
+    // crate, the files that it reads, and what it prints for each
+    ("listing", STDIN, listing::text),
+    ("gate_listings", inputs::LISTED, listing::text),
+    ("gate_rows", STDIN, rows::text),
+    ("gate_catalogue", STDIN, programs::gate_catalogue),
+    ("gate_structure", STDIN, fixed::gate_structure),
+    ("gate_store", STDIN, fixed::gate_store),
+    ("gate_classification", STDIN, programs::gate_classification),
+    ("gate_lookups", STDIN, programs::gate_lookups),
+    ("gate_calls", STDIN, programs::gate_calls),
+    ("gate_edits", STDIN, edits::text),
+    ("gate_running", STDIN, running::text),
 ];
 
 /// Writes the input of every program crate below `root` whose input is made
 /// here; one line of report for each.
 pub fn regenerate_inputs(root: &Path) -> io::Result<Vec<String>> {
-    let make = |&(name, input): &(&str, inputs::Input)| {
+    let make = |&(name, file, input): &(&str, &str, inputs::Input)| {
         let bytes = input(&root.join("data"))?;
-        let state = replace(&root.join("crates").join(name), "stdin", &bytes)?;
-        Ok(format!("{name} {state}"))
+        let state = replace(&root.join("crates").join(name), file, &bytes)?;
+        Ok(format!("{name} {file} {state}"))
     };
     inputs::PROGRAMS.iter().map(make).collect()
 }
@@ -50,16 +49,24 @@ pub fn regenerate_inputs(root: &Path) -> io::Result<Vec<String>> {
 /// Writes the expected output of every known program crate below `root`; one
 /// line of report for each.
 pub fn regenerate(root: &Path) -> io::Result<Vec<String>> {
-    let make = |&(name, output): &(&str, Output)| {
+    let make = |&(name, files, output): &(&str, &[&str], Output)| {
         let folder = root.join("crates").join(name);
-        let input = match fs::read(folder.join("stdin")) {
-            Err(error) if error.kind() == io::ErrorKind::NotFound => vec![],
-            other => other?,
-        };
-        let state = replace(&folder, "stdout", output(&input).as_bytes())?;
+        let mut text = String::new();
+        for file in files {
+            text += &output(&read(&folder.join(file))?);
+        }
+        let state = replace(&folder, "stdout", text.as_bytes())?;
         Ok(format!("{name} {state}"))
     };
     PROGRAMS.iter().map(make).collect()
+}
+
+/// A file's bytes; none where there is no such file.
+fn read(file: &Path) -> io::Result<Vec<u8>> {
+    match fs::read(file) {
+        Err(error) if error.kind() == io::ErrorKind::NotFound => Ok(vec![]),
+        other => other,
+    }
 }
 
 /// Writes a file of a crate, if it has other bytes.

@@ -1,5 +1,5 @@
-//! Inputs of programs: what `crates/NAME/stdin` holds, made of built-in
-//! catalogues and of those in `data/`.
+//! Inputs of programs: what `crates/NAME/stdin` holds, or a file of
+//! `crates/NAME/data`, made of built-in catalogues and of those in `data/`.
 
 use crate::calls;
 use crate::edit_cases;
@@ -9,23 +9,34 @@ use std::fs;
 use std::io;
 use std::path::Path;
 
-/// Makes a program's standard input, from the folder of catalogues.
+/// Makes a program's input, from the folder of catalogues.
 pub type Input = fn(&Path) -> io::Result<Vec<u8>>;
 
-/// The program crates whose input is made here: one line each.
-pub const PROGRAMS: &[(&str, Input)] = &[
-    ("listing", |data| catalogue(data, "w1")),
-    ("gate_listing_empty", |_| Ok(vec![])),
-    ("gate_listing_long", |_| Ok(vec![255; 70_000])),
-    ("gate_listing_many", |data| catalogue(data, "bookings-2")),
-    ("gate_listing_refused", |data| {
+/// The files that gate_listings lists, in its order.
+pub const LISTED: &[&str] = &[
+    "data/empty",
+    "data/long",
+    "data/many",
+    "data/refused",
+    "data/wide",
+];
+
+/// The inputs that are made here: crate and file, one line each.
+pub const PROGRAMS: &[(&str, &str, Input)] = &[
+    ("listing", "stdin", |data| catalogue(data, "w1")),
+    ("gate_listings", LISTED[0], |_| Ok(vec![])),
+    ("gate_listings", LISTED[1], |_| Ok(vec![255; 70_000])),
+    ("gate_listings", LISTED[2], |data| {
+        catalogue(data, "bookings-2")
+    }),
+    ("gate_listings", LISTED[3], |data| {
         catalogue(data, "w1-unsorted")
     }),
-    ("gate_listing_wide", |data| catalogue(data, "wide")),
-    ("gate_classification", closure_cases),
-    ("gate_calls", call_cases),
-    ("gate_edits", edit_cases::input),
-    ("gate_running", running_cases::input),
+    ("gate_listings", LISTED[4], |data| catalogue(data, "wide")),
+    ("gate_classification", "stdin", closure_cases),
+    ("gate_calls", "stdin", call_cases),
+    ("gate_edits", "stdin", edit_cases::input),
+    ("gate_running", "stdin", running_cases::input),
 ];
 
 /// All of a buffer.

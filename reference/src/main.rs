@@ -13,7 +13,7 @@ const USAGE: &str = "usage:
   reference check FILE       accepted, or refused with number and record
   reference classify FILE    pairs, links and the store's checksum
   reference expected [ROOT]  write crates/NAME/stdout of known programs
-  reference inputs [ROOT]    write crates/NAME/stdin of some of them
+  reference inputs [ROOT]    write crates/NAME/stdin or data of some of them
   reference catalogue NAME   a built-in catalogue's bytes
 FILE may be - for standard input. Catalogues:";
 

@@ -26,16 +26,17 @@ fn checksums() {
 
 #[test]
 fn inputs_are_made_here() {
-    for (name, input) in inputs::PROGRAMS {
+    for (name, place, input) in inputs::PROGRAMS {
         let made = input(&root().join("data")).expect("the catalogues of data/");
-        assert!(made == file(name, "stdin"), "{name}");
+        assert!(made == file(name, place), "{name} {place}");
     }
 }
 
 #[test]
 fn outputs_are_made_here() {
-    for (name, output) in expected::PROGRAMS {
-        let made = output(&file(name, "stdin"));
+    for (name, places, output) in expected::PROGRAMS {
+        let texts = places.iter().map(|place| output(&file(name, place)));
+        let made: String = texts.collect();
         assert!(made.as_bytes() == file(name, "stdout"), "{name}");
     }
 }

@@ -1,4 +1,4 @@
-// The listing program. Its run in the gate: W1.
+// The listing program, on standard input. Its run in the gate: W1.
 fn main() {
-    listings::run();
+    listings::run(libc::STDIN_FILENO);
 }

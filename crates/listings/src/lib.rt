@@ -2,7 +2,6 @@
 use classification::Classified;
 use classification::classify;
 use libc::STDERR_FILENO;
-use libc::STDIN_FILENO;
 use libc::STDOUT_FILENO;
 use text::listing_text;
 use text::refusal_text;
@@ -42,18 +41,18 @@ fn list(input: &[u8]) {
     }
 }
 
-// Whether standard input has ended: a read then gives nothing, and one that fails gives -1.
-fn input_ended() -> bool {
+// Whether an input has ended: a read then gives nothing, and one that fails gives -1.
+fn input_ended(file: i32) -> bool {
     let mut more = [0u8; 1];
-    libc::read(STDIN_FILENO, &mut more) == 0
+    libc::read(file, &mut more) == 0
 }
 
-// Lists the catalogue on standard input, of which it reads 65,536 bytes at most: a longer input is refused by these alone.
-pub fn run() {
+// Lists the catalogue that a descriptor gives, of which it reads 65,536 bytes at most: a longer input is refused by these alone.
+pub fn run(file: i32) {
     let mut input = io::large_buffer();
-    let n = io::read_full(STDIN_FILENO, &mut input);
+    let n = io::read_full(file, &mut input);
     if n < 65536 {
-        if !input_ended() {
+        if !input_ended(file) {
             io::write_all(STDERR_FILENO, b"listing: the input could not be read\n");
             return;
         }

@@ -1,4 +1,0 @@
-// The listing program on an empty input.
-fn main() {
-    listings::run();
-}
