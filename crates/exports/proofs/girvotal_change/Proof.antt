@@ -1,7 +1,7 @@
 -- `exports::girvotal_change` meets its contract.
 use native.Mathlib.Omega.{arith}
-use Rattle.exports.proofs.Exporting.{exported-short, exported-long}
-use Rattle.exports.proofs.Refusals.{edit-fits}
+use Rattle.replies.proofs.Exporting.{exported-short, exported-long}
+use Rattle.replies.proofs.Refusals.{edit-fits}
 use borrow.Author.Needs.{needs}
 use Rattle.exports.proofs.girvotal_change.Statement.{statement}
 use Rattle.exports.proofs.girvotal_change.Tie as tie

@@ -1,7 +1,7 @@
 -- `exports::girvotal_check` meets its contract.
 use native.Mathlib.Omega.{arith}
-use Rattle.exports.proofs.Exporting.{exported-short, exported-long}
-use Rattle.exports.proofs.Refusals.{check-fits}
+use Rattle.replies.proofs.Exporting.{exported-short, exported-long}
+use Rattle.replies.proofs.Refusals.{check-fits}
 use borrow.Author.Needs.{needs}
 use Rattle.exports.proofs.girvotal_check.Statement.{statement}
 use Rattle.exports.proofs.girvotal_check.Tie as tie

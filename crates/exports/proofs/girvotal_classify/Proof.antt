@@ -1,7 +1,7 @@
 -- `exports::girvotal_classify` meets its contract.
 use native.Mathlib.Omega.{arith}
-use Rattle.exports.proofs.Exporting.{exported-short, exported-long}
-use Rattle.exports.proofs.Refusals.{classify-fits}
+use Rattle.replies.proofs.Exporting.{exported-short, exported-long}
+use Rattle.replies.proofs.Refusals.{classify-fits}
 use borrow.Author.Needs.{needs}
 use Rattle.exports.proofs.girvotal_classify.Statement.{statement}
 use Rattle.exports.proofs.girvotal_classify.Tie as tie

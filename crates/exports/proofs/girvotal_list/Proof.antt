@@ -1,7 +1,7 @@
 -- `exports::girvotal_list` meets its contract.
 use native.Mathlib.Omega.{arith}
-use Rattle.exports.proofs.Exporting.{exported-short, exported-long}
-use Rattle.exports.proofs.Refusals.{list-fits}
+use Rattle.replies.proofs.Exporting.{exported-short, exported-long}
+use Rattle.replies.proofs.Refusals.{list-fits}
 use borrow.Author.Needs.{needs}
 use Rattle.exports.proofs.girvotal_list.Statement.{statement}
 use Rattle.exports.proofs.girvotal_list.Tie as tie

@@ -1,7 +1,7 @@
 -- `exports::girvotal_lookup` meets its contract.
 use native.Mathlib.Omega.{arith}
-use Rattle.exports.proofs.Exporting.{exported-short, exported-long}
-use Rattle.exports.proofs.Refusals.{lookup-fits}
+use Rattle.replies.proofs.Exporting.{exported-short, exported-long}
+use Rattle.replies.proofs.Refusals.{lookup-fits}
 use borrow.Author.Needs.{needs}
 use Rattle.exports.proofs.girvotal_lookup.Statement.{statement}
 use Rattle.exports.proofs.girvotal_lookup.Tie as tie

@@ -1,7 +1,7 @@
 -- `exports::girvotal_row` meets its contract.
 use native.Mathlib.Omega.{arith}
-use Rattle.exports.proofs.Exporting.{exported-short, exported-long}
-use Rattle.exports.proofs.Refusals.{row-fits}
+use Rattle.replies.proofs.Exporting.{exported-short, exported-long}
+use Rattle.replies.proofs.Refusals.{row-fits}
 use borrow.Author.Needs.{needs}
 use Rattle.exports.proofs.girvotal_row.Statement.{statement}
 use Rattle.exports.proofs.girvotal_row.Tie as tie

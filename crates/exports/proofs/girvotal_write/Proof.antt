@@ -1,7 +1,7 @@
 -- `exports::girvotal_write` meets its contract.
 use native.Mathlib.Omega.{arith}
-use Rattle.exports.proofs.Exporting.{exported-short, exported-long}
-use Rattle.exports.proofs.Refusals.{write-fits}
+use Rattle.replies.proofs.Exporting.{exported-short, exported-long}
+use Rattle.replies.proofs.Refusals.{write-fits}
 use borrow.Author.Needs.{needs}
 use Rattle.exports.proofs.girvotal_write.Statement.{statement}
 use Rattle.exports.proofs.girvotal_write.Tie as tie
