@@ -18,9 +18,10 @@ use Rattle.edits.specs.Edits.{Lent}
 use Rattle.edits.proofs.Outcomes.{answer-outcome as change-answer}
 use Rattle.writing.proofs.Outcomes.{answer-outcome as write-answer, refused-keeps}
 use Rattle.lookups.specs.Listings.{kindsUnder, listAfter}
-use Rattle.lookups.specs.Rows.{rowAnswer}
-use Rattle.lookups.proofs.Outcomes.{lookup-outcome, list-outcome, row-outcome}
-use Rattle.lookups.proofs.DemandEntries.{listing-finds}
+use Rattle.row_parts.specs.Rows.{rowAnswer}
+use Rattle.lookups.proofs.Outcomes.{lookup-outcome, list-outcome}
+use Rattle.row_parts.proofs.Outcomes.{row-outcome}
+use Rattle.meaning.proofs.DemandEntries.{listing-finds}
 use Rattle.sizing.proofs.Answered.{answer-outcome as check-answer}
 use Rattle.demands.specs.PublicCalls.{PublicCall, check, classify, change, lookup, listing, row, write}
 use Rattle.demands.specs.PublicCalls.{Returns, measures, classifies, changes, looks-up, lists, hands-out, writes}

@@ -12,11 +12,11 @@ use Rattle.writing.specs.Write.{Writes}
 use Rattle.writing.specs.declared.Wrote.{Wrote}
 use Rattle.writing.proofs.FreshWritten.{writes-long, writes-short}
 use Rattle.lookups.specs.Answers.{lookedUp}
-use Rattle.lookups.specs.Meaning.{LookupMeans}
-use Rattle.lookups.proofs.DemandLookup.{lookup-means, occurring-answered}
-use Rattle.lookups.proofs.DemandEntries.{listing-finds}
-use Rattle.lookups.proofs.DemandRow.{row-means}
-use Rattle.lookups.proofs.DemandAtomic.{atomic-means}
+use Rattle.meaning.specs.Meaning.{LookupMeans}
+use Rattle.meaning.proofs.DemandLookup.{lookup-means, occurring-answered}
+use Rattle.meaning.proofs.DemandEntries.{listing-finds}
+use Rattle.meaning.proofs.DemandRow.{row-means}
+use Rattle.meaning.proofs.DemandAtomic.{atomic-means}
 use Rattle.demands.specs.WriteBack.{WritesOut, WritesBack, CallsThenWriteBack}
 use Rattle.demands.specs.DemandTwo.{Meant, DemandTwo}
 use Rattle.demands.proofs.FreshStores.{FreshStore, classify-leaves, fresh-front}

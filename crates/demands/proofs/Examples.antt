@@ -15,7 +15,7 @@ use Rattle.layout.specs.Parts.{width, used, workUsed}
 use Rattle.store.specs.Checks.{storeFits, workFits}
 use Rattle.store.specs.Work.{zeroed}
 use Rattle.lookups.specs.Answers.{lookedUp}
-use Rattle.lookups.specs.Meaning.{LookupMeans}
+use Rattle.meaning.specs.Meaning.{LookupMeans}
 use Rattle.lookups.specs.declared.pairs.Looked.{Looked}
 use Rattle.lookups.specs.declared.pairs.Looked.the-variants.{Yes, No}
 use Rattle.writing.specs.Write.{Writes}

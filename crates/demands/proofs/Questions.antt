@@ -34,7 +34,7 @@ use Rattle.edits.specs.Questions.{lengthChecks, axiomChecks, contentChecks as c
 use Rattle.edits.specs.Edits.{Lent, asked}
 use Rattle.edits.proofs.Lists.{among-exact, whole-long, in-force-at, new-at}
 use Rattle.writing.specs.Write.{outputFits, storeChecks, writeChecks}
-use Rattle.lookups.specs.Checks.{askOccurs, openChecks, contentChecks, readChecks, listChecks}
+use Rattle.reading.specs.Checks.{askOccurs, openChecks, contentChecks, readChecks, listChecks}
 use Rattle.demands.specs.PublicCalls.{check, classify, change, listing, write}
 use Rattle.demands.specs.DemandOne.{Fault, damagedCatalogue, shortStore, shortWork, shortList, shortOutput, notWhole, twice, strayBit, outOfRange}
 use Rattle.demands.specs.DemandOne.{addedTwice, notInForce, tooManyAxioms, noRoom, unused, NotWhole, Wrong, refusal, readFaults, faults, ByFirst, none, here, later}

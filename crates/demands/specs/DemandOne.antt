@@ -18,7 +18,7 @@ use Rattle.store.specs.Written.{axiomCount, written}
 use Rattle.edits.specs.Lists.{axiomsIn, leftIn, rightIn, sidesIn, edited}
 use Rattle.edits.specs.Edits.{Lent}
 use Rattle.lookups.specs.Listings.{Lists}
-use Rattle.lookups.specs.Meaning.{KindUnder}
+use Rattle.meaning.specs.Meaning.{KindUnder}
 use Rattle.lookups.specs.declared.kinds.Listed.the-variants.{Count}
 use Rattle.demands.specs.Sequences.{AfterCalls}
 use Rattle.demands.specs.PublicCalls.{PublicCall, check, classify, change, lookup, listing, row, write, Returns}

@@ -19,13 +19,13 @@ use Rattle.writing.specs.Write.{Writes}
 use Rattle.writing.specs.declared.Wrote.{Wrote}
 use Rattle.lookups.specs.Answers.{lookedUp}
 use Rattle.lookups.specs.Listings.{kindsUnder, Lists}
-use Rattle.lookups.specs.Rows.{rowAnswer, HandsOut}
-use Rattle.lookups.specs.Meaning.{LookupMeans, ListingFinds, RowMeans}
-use Rattle.lookups.specs.Atomic.{AtomicMeans}
+use Rattle.row_parts.specs.Rows.{rowAnswer, HandsOut}
+use Rattle.meaning.specs.Meaning.{LookupMeans, ListingFinds, RowMeans}
+use Rattle.meaning.specs.Atomic.{AtomicMeans}
 use Rattle.lookups.specs.declared.pairs.Looked.{Looked}
 use Rattle.lookups.specs.declared.pairs.Looked.the-variants.{Yes, No}
 use Rattle.lookups.specs.declared.kinds.Listed.{Listed}
-use Rattle.lookups.specs.declared.handing.Handed.{Handed}
+use Rattle.row_parts.specs.declared.Handed.{Handed}
 use Rattle.demands.specs.Sequences.{EachFront, AfterCalls}
 use Rattle.demands.specs.WriteBack.{WritesOut}
 

@@ -16,10 +16,10 @@ use Rattle.sizing.specs.Sizes.{Measures, outcomeOf as checkOutcome}
 use Rattle.sizing.specs.declared.Sizes.{Sizes}
 use Rattle.lookups.specs.Answers.{lookedUp, lookupOutcome}
 use Rattle.lookups.specs.Listings.{Lists, listOutcome}
-use Rattle.lookups.specs.Rows.{rowAnswer, HandsOut, rowOutcome}
+use Rattle.row_parts.specs.Rows.{rowAnswer, HandsOut, rowOutcome}
 use Rattle.lookups.specs.declared.pairs.Looked.{Looked}
 use Rattle.lookups.specs.declared.kinds.Listed.{Listed}
-use Rattle.lookups.specs.declared.handing.Handed.{Handed}
+use Rattle.row_parts.specs.declared.Handed.{Handed}
 
 -- Check the catalogue, and say what it asks for; classify; withdraw the axioms of `gone` and add those of `new`; look up (c, d); list the atomic kinds under
 -- d; hand out the row of c; write the current catalogue.

@@ -117,7 +117,7 @@ pub extern "C" fn girvotal_row(
     if answer.len() < ENTRIES {
         return SHORT_ANSWER;
     }
-    let handed = lookups::row_answer(catalogue, concept, store);
+    let handed = row_parts::row_answer(catalogue, concept, store);
     give(answer, row_reply(handed))
 }
 

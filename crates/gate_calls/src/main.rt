@@ -14,7 +14,7 @@ use cases::say_reply;
 use cases::short_at;
 use libc::STDIN_FILENO;
 use libc::STDOUT_FILENO;
-use lookups::Handed;
+use row_parts::Handed;
 use writing::Wrote;
 
 // Writes the catalogue with the axioms in force.
@@ -41,7 +41,7 @@ fn say_row(part: &[u8], answer: Handed) {
 
 // Answers a row, with the part beside it.
 fn run_row(b: &[u8], c: usize, store: &[u8]) {
-    let handed = lookups::row_and_answer(b, c, store);
+    let handed = row_parts::row_and_answer(b, c, store);
     say_row(handed.part, handed.answer);
 }
 

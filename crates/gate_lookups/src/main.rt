@@ -10,9 +10,9 @@ use cases::say_refused;
 use cases::short_at;
 use libc::STDIN_FILENO;
 use libc::STDOUT_FILENO;
-use lookups::Handed;
 use lookups::Listed;
 use lookups::Looked;
+use row_parts::Handed;
 
 // Writes a space and bytes, and ends the line.
 fn say_bytes(bytes: &[u8]) {
@@ -51,7 +51,7 @@ fn run_listing(b: &[u8], d: usize, store: &[u8], list: &mut [u8]) {
 
 // Answers a row, with the bytes of the part.
 fn run_row(b: &[u8], c: usize, store: &[u8]) {
-    let answer = lookups::row_answer(b, c, store);
+    let answer = row_parts::row_answer(b, c, store);
     match answer {
         Handed::Row(offset, width) => {
             say(b"row ", offset);
@@ -59,7 +59,7 @@ fn run_row(b: &[u8], c: usize, store: &[u8]) {
         }
         Handed::Refused(number, record) => say_refused(number, record),
     }
-    say_bytes(lookups::row(b, c, store));
+    say_bytes(row_parts::row(b, c, store));
 }
 
 // Runs one call.

@@ -1,11 +1,3 @@
-pub mod Acceptance
 pub mod Answered
 pub mod Unique
 pub mod Outcomes
-pub mod Partitions
-pub mod DemandLookup
-pub mod DemandListing
-pub mod DemandEntries
-pub mod DemandRow
-pub mod DemandAtomic
-pub mod Refusals

@@ -1,17 +1,15 @@
--- What an answer of lookup, listing and row says of its questions.
+-- What an answer of lookup and listing says of its questions.
 use Prim.Native.Nat.{ℕ}
 use mathlib.Core.Path.{_≡_, refl, ap, _∙_}
 use mathlib.Core.Bool.{Bool, true, false}
 use mathlib.Core.List.{List, [], _∷_}
 use lib.ListN.{length}
 use Rattle.catalogue.specs.Outcome.{Outcome, accepted, refused}
-use Rattle.lookups.specs.Checks.{readChecks, listChecks}
+use Rattle.reading.specs.Checks.{readChecks, listChecks}
 use Rattle.lookups.specs.Answers.{lookupOutcome, looked, lookedUp}
 use Rattle.lookups.specs.Listings.{listOutcome, listed, kindsUnder, Lists}
-use Rattle.lookups.specs.Rows.{rowOutcome, handed, rowAnswer}
 use Rattle.lookups.specs.declared.pairs.Looked.{Looked}
 use Rattle.lookups.specs.declared.kinds.Listed.{Listed}
-use Rattle.lookups.specs.declared.handing.Handed.{Handed}
 
 looked-outcome : (o : Outcome) (has : Bool) → lookupOutcome (looked o has) ≡ o
 looked-outcome accepted true = refl
@@ -29,11 +27,3 @@ listed-outcome (refused number at) names = refl
 pub list-outcome : {b : List ℕ} {d : ℕ} {store list list' : List ℕ} (a : Listed) → Lists b d store list a list'
     → listOutcome a ≡ listChecks b (d ∷ []) store (length list)
 list-outcome {b} {d} {store} a p = ap listOutcome (p .answer) ∙ listed-outcome _ (kindsUnder b d store)
-
-handed-outcome : (o : Outcome) (offset size : ℕ) → rowOutcome (handed o offset size) ≡ o
-handed-outcome accepted offset size = refl
-handed-outcome (refused number at) offset size = refl
-
-pub row-outcome : (b : List ℕ) (c : ℕ) (store : List ℕ) (a : Handed) → a ≡ rowAnswer b c store → rowOutcome a ≡ readChecks b (c ∷ []) store
-unfolding rowAnswer
-row-outcome b c store a e = ap rowOutcome e ∙ handed-outcome _ _ _

@@ -5,7 +5,7 @@ use mathlib.Core.List.{List, [], _∷_}
 use Rattle.catalogue.specs.Outcome.{Outcome, accepted, refused}
 use Rattle.rules.specs.Rules.{pair}
 use Rattle.layout.specs.Parts.{held}
-use Rattle.lookups.specs.Checks.{readChecks}
+use Rattle.reading.specs.Checks.{readChecks}
 use Rattle.lookups.specs.declared.pairs.Looked.{Looked}
 use Rattle.lookups.specs.declared.pairs.Looked.the-variants.{Yes, No, Refused}
 

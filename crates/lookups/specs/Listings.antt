@@ -12,7 +12,7 @@ use Rattle.rules.specs.Rules.{pair}
 use Rattle.layout.specs.Parts.{held}
 use Rattle.store.specs.Written.{rising}
 use Rattle.lists.specs.Lists.{withFront}
-use Rattle.lookups.specs.Checks.{listChecks}
+use Rattle.reading.specs.Checks.{listChecks}
 use Rattle.lookups.specs.declared.kinds.Listed.{Listed}
 use Rattle.lookups.specs.declared.kinds.Listed.the-variants.{Count, Refused}
 

@@ -6,10 +6,10 @@ ghost use Rattle.catalogue.specs.Header.{concepts};
 ghost use Rattle.layout.specs.Parts.{Sized};
 ghost use Rattle.lists.specs.Lists.{Filled};
 ghost use Rattle.lookups.specs.Listings.{atomicUnder, kindsUnder, Lists};
-use super::checks::check_listing;
 use super::pairs::has_pair;
 use catalogue::Concept;
 use catalogue::Verdict;
+use reading::check_listing;
 
 // What a listing answers.
 pub enum Listed {

@@ -5,9 +5,9 @@ ghost use Rattle.catalogue.specs.Header.{concepts};
 ghost use Rattle.rules.specs.Rules.{pair};
 ghost use Rattle.layout.specs.Parts.{Sized, held};
 ghost use Rattle.lookups.specs.Answers.{lookedUp};
-use super::checks::check_reading;
 use catalogue::Verdict;
 use layout::pair_offset;
+use reading::check_reading;
 
 // What a lookup answers.
 pub enum Looked {

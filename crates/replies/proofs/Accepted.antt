@@ -12,7 +12,7 @@ use Rattle.catalogue.proofs.Refusals.{Small, small-checked}
 use Rattle.classification.proofs.Refusals.{small-classify}
 use Rattle.edits.specs.Edits.{lend}
 use Rattle.edits.proofs.Refusals.{small-edit}
-use Rattle.lookups.proofs.Refusals.{small-read, small-list}
+use Rattle.reading.proofs.Refusals.{small-read, small-list}
 use Rattle.writing.proofs.Refusals.{small-write}
 use Rattle.replies.specs.declared.Reply.{Reply}
 use Rattle.replies.specs.declared.Reply.the-variants.{Accepted, Refused}

@@ -17,8 +17,8 @@ use Rattle.edits.proofs.Refusals.{small-edit}
 use Rattle.lookups.specs.declared.kinds.Listed.{Listed}
 use Rattle.lookups.specs.Answers.{lookedUp}
 use Rattle.lookups.specs.Listings.{Lists}
-use Rattle.lookups.specs.Rows.{rowAnswer}
-use Rattle.lookups.proofs.Refusals.{small-read, small-list}
+use Rattle.row_parts.specs.Rows.{rowAnswer}
+use Rattle.reading.proofs.Refusals.{small-read, small-list}
 use Rattle.writing.specs.declared.Wrote.{Wrote}
 use Rattle.writing.specs.Write.{Writes}
 use Rattle.writing.proofs.Refusals.{small-write}

@@ -17,13 +17,14 @@ use Rattle.lookups.specs.declared.pairs.Looked.{Looked}
 use Rattle.lookups.specs.declared.pairs.Looked.the-variants.{Yes, No}
 use Rattle.lookups.specs.declared.kinds.Listed.{Listed}
 use Rattle.lookups.specs.declared.kinds.Listed.the-variants.{Count}
-use Rattle.lookups.specs.declared.handing.Handed.{Handed}
-use Rattle.lookups.specs.declared.handing.Handed.the-variants.{Row}
-use Rattle.lookups.specs.Checks.{readChecks, listChecks}
+use Rattle.row_parts.specs.declared.Handed.{Handed}
+use Rattle.row_parts.specs.declared.Handed.the-variants.{Row}
+use Rattle.reading.specs.Checks.{readChecks, listChecks}
 use Rattle.lookups.specs.Answers.{lookedUp}
 use Rattle.lookups.specs.Listings.{Lists}
-use Rattle.lookups.specs.Rows.{rowAnswer}
-use Rattle.lookups.proofs.Outcomes.{lookup-outcome as lookup-answer, list-outcome as list-answer, row-outcome as row-answer}
+use Rattle.row_parts.specs.Rows.{rowAnswer}
+use Rattle.lookups.proofs.Outcomes.{lookup-outcome as lookup-answer, list-outcome as list-answer}
+use Rattle.row_parts.proofs.Outcomes.{row-outcome as row-answer}
 use Rattle.writing.specs.declared.Wrote.{Wrote}
 use Rattle.writing.specs.declared.Wrote.the-variants.{Length}
 use Rattle.writing.specs.Write.{ByOutcome}

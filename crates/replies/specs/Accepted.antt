@@ -8,7 +8,7 @@ use Rattle.catalogue.specs.Outcome.{Outcome, accepted}
 use Rattle.catalogue.specs.Checks.{checked}
 use Rattle.classification.specs.Classified.{classifyChecks}
 use Rattle.edits.specs.Edits.{lend, asked}
-use Rattle.lookups.specs.Checks.{readChecks, listChecks}
+use Rattle.reading.specs.Checks.{readChecks, listChecks}
 use Rattle.writing.specs.Write.{writeChecks}
 use Rattle.replies.specs.Check.{CheckExported}
 use Rattle.replies.specs.Classify.{ClassifyExported}

@@ -6,11 +6,11 @@ use Rattle.lookups.specs.declared.pairs.Looked.{Looked}
 use Rattle.lookups.specs.declared.pairs.Looked.the-variants.{Yes, No}
 use Rattle.lookups.specs.declared.kinds.Listed.{Listed}
 use Rattle.lookups.specs.declared.kinds.Listed.the-variants.{Count}
-use Rattle.lookups.specs.declared.handing.Handed.{Handed}
-use Rattle.lookups.specs.declared.handing.Handed.the-variants.{Row}
+use Rattle.row_parts.specs.declared.Handed.{Handed}
+use Rattle.row_parts.specs.declared.Handed.the-variants.{Row}
 use Rattle.lookups.specs.Answers.{lookedUp}
 use Rattle.lookups.specs.Listings.{Lists}
-use Rattle.lookups.specs.Rows.{rowAnswer}
+use Rattle.row_parts.specs.Rows.{rowAnswer}
 use Rattle.replies.specs.declared.Reply.{Reply}
 use Rattle.replies.specs.declared.Reply.the-variants.{Accepted}
 use Rattle.replies.specs.Answers.{Exported}

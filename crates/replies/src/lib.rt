@@ -10,9 +10,9 @@ ghost use Rattle.replies.specs.Lookups.{lookupReply, listReply, rowReply
 ghost use Rattle.replies.specs.Write.{writeReply};
 use classification::Classified;
 use edits::Changed;
-use lookups::Handed;
 use lookups::Listed;
 use lookups::Looked;
+use row_parts::Handed;
 use sizing::Sizes;
 use writing::Wrote;
 

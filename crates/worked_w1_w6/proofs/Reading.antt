@@ -28,14 +28,15 @@ use Rattle.store.specs.Fresh.{Fresh}
 use Rattle.store.specs.Checks.{every, listFits, askList, askNumbers}
 use Rattle.store.proofs.Examples.{w1-axiom-count, w1-written}
 use Rattle.lists.specs.Lists.{withFront}
-use Rattle.lookups.specs.Checks.{askOccurs, readChecks, listChecks}
+use Rattle.reading.specs.Checks.{askOccurs, readChecks, listChecks}
 use Rattle.lookups.specs.Answers.{lookedUp}
 use Rattle.lookups.specs.Listings.{atomicUnder, kindsUnder, listed, listAfter}
-use Rattle.lookups.specs.Rows.{rowAnswer}
+use Rattle.row_parts.specs.Rows.{rowAnswer}
 use Rattle.lookups.specs.declared.pairs.Looked.the-variants.{Yes, No, Refused}
-use Rattle.lookups.specs.declared.handing.Handed.the-variants.{Row}
-use Rattle.lookups.proofs.Answered.{looked-up, row-accepted}
-use Rattle.lookups.proofs.DemandLookup.{content-asks, open-passes, read-asks, lookup-means}
+use Rattle.row_parts.specs.declared.Handed.the-variants.{Row}
+use Rattle.lookups.proofs.Answered.{looked-up}
+use Rattle.row_parts.proofs.Answered.{row-accepted}
+use Rattle.meaning.proofs.DemandLookup.{content-asks, open-passes, read-asks, lookup-means}
 use Rattle.writing.specs.Write.{writeChecks, Writes}
 use Rattle.writing.specs.declared.Wrote.the-variants.{Length}
 use Rattle.writing.proofs.FreshWritten.{fresh-long}

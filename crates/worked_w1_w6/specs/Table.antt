@@ -18,9 +18,9 @@ use Rattle.store.specs.Fresh.{Fresh}
 use Rattle.edits.specs.Lists.{edited}
 use Rattle.edits.specs.declared.Changed.the-variants.{Done}
 use Rattle.lookups.specs.Answers.{lookedUp}
-use Rattle.lookups.specs.Rows.{rowAnswer}
+use Rattle.row_parts.specs.Rows.{rowAnswer}
 use Rattle.lookups.specs.declared.pairs.Looked.the-variants.{Yes, No, Refused}
-use Rattle.lookups.specs.declared.handing.Handed.the-variants.{Row}
+use Rattle.row_parts.specs.declared.Handed.the-variants.{Row}
 use Rattle.worked_w1_w6.specs.Stores.{w1Store, w3Store}
 use Rattle.worked_common.specs.Calls.{ClassifyGives, ChangeGives, ListingGives, WriteGives}
 use Rattle.worked_common.specs.Entries.{Classified, Changed}

@@ -46,10 +46,10 @@ use Rattle.classification.proofs.WithoutAxioms.{on-diagonal, atomic-marks}
 use Rattle.edits.specs.declared.Changed.the-variants.{Done}
 use Rattle.edits.proofs.Members.{onList}
 use Rattle.lookups.specs.Answers.{lookedUp}
-use Rattle.lookups.specs.Atomic.{AtomicMeans}
+use Rattle.meaning.specs.Atomic.{AtomicMeans}
 use Rattle.lookups.specs.declared.pairs.Looked.the-variants.{Yes, No, Refused}
-use Rattle.lookups.proofs.DemandLookup.{meant, lookup-means}
-use Rattle.lookups.proofs.DemandAtomic.{atomic-means}
+use Rattle.meaning.proofs.DemandLookup.{meant, lookup-means}
+use Rattle.meaning.proofs.DemandAtomic.{atomic-means}
 use Rattle.worked_w8_w10.specs.Catalogues.{w8}
 use Rattle.worked_w8_w10.specs.Stores.{atomicBlock, atomicStore, w8Store}
 use Rattle.worked_common.specs.Calls.{ClassifyGives, ChangeGives}

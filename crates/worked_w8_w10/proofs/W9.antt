@@ -9,7 +9,7 @@ use Rattle.rows.specs.Bits.{byteBit, bit, setBit, someBelow, place}
 use Rattle.layout.specs.Parts.{width, used, rowCount, setFrom, spareClear}
 use Rattle.store.specs.Written.{rising}
 use Rattle.store.specs.Checks.{storeFits, askStore, askSpare}
-use Rattle.lookups.specs.Checks.{openChecks, contentChecks, readChecks}
+use Rattle.reading.specs.Checks.{openChecks, contentChecks, readChecks}
 use Rattle.lookups.specs.Answers.{lookedUp}
 use Rattle.lookups.specs.declared.pairs.Looked.the-variants.{Refused}
 use Rattle.worked_w1_w6.specs.Stores.{w1Store}

@@ -42,15 +42,15 @@ use denote.Triple.Table.{entered, cited}
 use denote.Triple.Walked.{Stays, stay-none, stay-none-slice, walkOf, goes-none, goes-none-slice, Walks, ends-at, walked, walk-meets}
 use denote.Exit.{yes}
 use denote.Triple.Clauses.{ensured}
-use Rattle.lookups.specs.declared.handing.RowAnswer.{RowAnswer}
-use Rattle.lookups.proofs.handing.RowAnswer as T
-use Rattle.lookups.proofs.handing.RowAnswer.Laws as T′
-use Rattle.lookups.proofs.handing.Handed as S
-use Rattle.lookups.proofs.handing.Handed.Laws as S′
-use Rattle.lookups.proofs.handing.row_and_answer as both
-use Rattle.lookups.proofs.handing.row_and_answer.Symbol as both-def
-use Rattle.lookups.proofs.handing.row_and_answer.Symbol.{name as #both}
-use Rattle.lookups.proofs.handing.row_and_answer.Met as both-thm
+use Rattle.row_parts.specs.declared.RowAnswer.{RowAnswer}
+use Rattle.row_parts.proofs.RowAnswer as T
+use Rattle.row_parts.proofs.RowAnswer.Laws as T′
+use Rattle.row_parts.proofs.Handed as S
+use Rattle.row_parts.proofs.Handed.Laws as S′
+use Rattle.row_parts.proofs.row_and_answer as both
+use Rattle.row_parts.proofs.row_and_answer.Symbol as both-def
+use Rattle.row_parts.proofs.row_and_answer.Symbol.{name as #both}
+use Rattle.row_parts.proofs.row_and_answer.Met as both-thm
 use Rattle.gate_calls.proofs.say_row as say
 use Rattle.gate_calls.proofs.say_row.Symbol as say-def
 use Rattle.gate_calls.proofs.say_row.Symbol.{name as #say}
@@ -205,5 +205,5 @@ run-row-spec 𝓤 H 𝓜 𝓖 𝓡 =
     entered 𝓤 H (tripleOf 𝓤 H (𝓖 .A) row.signature (row.spec 𝓤 H (𝓖 .A) (𝓜 .mem) (𝓡 .run)))
     (tables 𝓤 H 𝓜 𝓡 code.env .C) (tables 𝓤 H 𝓜 𝓡 code.env .Λ) #row code.function (code.unfolded 𝓤 H 𝓜 𝓡)
     (meets 𝓤 H (𝓖 .A) (givenOf 𝓤 H 𝓜 𝓖) (𝓜 .mem) (𝓡 .run) (tablesOf 𝓤 H 𝓜 (tables 𝓤 H 𝓜 𝓡 code.env))
-    (cited 𝓤 H (Both 𝓤 H (𝓖 .A) (𝓜 .mem) (𝓡 .run)) 𝓜 𝓡 code.env #both both-def.routine code.calls-lookups·handing·row-and-answer (both-thm.met 𝓤 H 𝓜 𝓖 𝓡))
+    (cited 𝓤 H (Both 𝓤 H (𝓖 .A) (𝓜 .mem) (𝓡 .run)) 𝓜 𝓡 code.env #both both-def.routine code.calls-row-parts·row-and-answer (both-thm.met 𝓤 H 𝓜 𝓖 𝓡))
     (cited 𝓤 H (Say 𝓤 H (𝓖 .A) (𝓜 .mem) (𝓡 .run)) 𝓜 𝓡 code.env #say say-def.routine code.calls-gate-calls·say-row (say-thm.met 𝓤 H 𝓜 𝓖 𝓡)))

@@ -3,8 +3,8 @@ use mathlib.Core.Path.{sym, ap, _∙_}
 use mathlib.Core.List.{[], _∷_}
 use denote.Ref.{now}
 use Rattle.catalogue.specs.Verdicts.{outcomeOf}
-use Rattle.lookups.specs.Checks.{Named}
-use Rattle.lookups.proofs.Acceptance.{read-named, named-two}
+use Rattle.reading.specs.Checks.{Named}
+use Rattle.reading.proofs.Acceptance.{read-named, named-two}
 use Rattle.lookups.proofs.Answered.{looked-up, looked-refused}
 use borrow.Author.Needs.{needs}
 use Rattle.lookups.proofs.pairs.lookup.Statement.{statement}

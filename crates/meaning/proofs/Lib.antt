@@ -1,0 +1,6 @@
+pub mod Partitions
+pub mod DemandLookup
+pub mod DemandListing
+pub mod DemandEntries
+pub mod DemandRow
+pub mod DemandAtomic
