@@ -2,9 +2,7 @@ pub mod Checks
 pub mod Unique
 pub mod DemandTwo
 pub mod WithoutAxioms
-pub mod AxiomTable
 pub mod Filled
-pub mod Putting
 pub mod Answers
 pub mod Refusals
 pub mod Outcomes

@@ -1,3 +1,2 @@
 pub mod Classified
-pub mod AxiomRows
 pub mod Closing

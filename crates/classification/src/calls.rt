@@ -1,7 +1,7 @@
 // Classify: questions 1 to 11, and then the store and the work space filled.
 use super::Classified;
-use super::axioms::put_axioms;
 use super::closing::close;
+use axiom_rows::put_axioms;
 use catalogue::Verdict;
 use catalogue::check;
 use layout::Shape;

@@ -1,5 +1,4 @@
 // The call classify: the axioms of a catalogue in force, and all that the rules give from them.
-pub mod axioms; // axioms.rt: the catalogue's axioms as a table of rows
 pub mod closing; // closing.rt: all that the rules give from a table of axioms
 pub mod calls; // calls.rt: classify, by questions 1 to 11
 

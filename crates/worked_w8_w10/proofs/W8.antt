@@ -41,7 +41,7 @@ use Rattle.store.specs.Written.{rising, numbered, axiomCount, sidesOf, axiomRec
 use Rattle.store.specs.Fresh.{Fresh}
 use Rattle.store.proofs.Stored.{parts-marked, marked-used}
 use Rattle.store.proofs.WrittenBytes.{bytes-append}
-use Rattle.classification.proofs.Putting.{clear-table}
+use Rattle.axiom_rows.proofs.Cleared.{clear-table}
 use Rattle.classification.proofs.WithoutAxioms.{on-diagonal, atomic-marks}
 use Rattle.edits.specs.declared.Changed.the-variants.{Done}
 use Rattle.edits.proofs.Members.{onList}

@@ -12,7 +12,7 @@ use Rattle.rules.specs.Axioms.{catalogueAxioms}
 use Rattle.layout.specs.declared.Shape.{Shape}
 use Rattle.layout.specs.Layout.{table, tableLength}
 use Rattle.lending.proofs.Copies.{copied-all}
-use Rattle.classification.specs.AxiomRows.{MarksAxioms, PutsAxioms}
+use Rattle.axiom_rows.specs.Putting.{MarksAxioms, PutsAxioms}
 
 -- A table of zeros holds no axiom.
 pub clear-table : (s : Shape) (k c d : ℕ) → table s (replicate k 0) c d ≡ false

@@ -8,7 +8,7 @@ ghost use mathlib.Core.Path.{_≡_};
 ghost use Prim.Native.Nat.{_≤_};
 ghost use lib.ListN.{length};
 ghost use Rattle.layout.specs.Layout.{Shaped, tableLength};
-ghost use Rattle.classification.specs.AxiomRows.{MarksAxioms, PutsAxioms};
+ghost use Rattle.axiom_rows.specs.Putting.{MarksAxioms, PutsAxioms};
 
 // Marks each axiom of the catalogue.
 pub fn axiom_rows(b: &[u8], s: Shape, table: &mut [u8])

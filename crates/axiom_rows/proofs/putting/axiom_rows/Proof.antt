@@ -1,4 +1,4 @@
--- `axioms::axiom_rows` meets its contract: each turn marks one axiom more.
+-- `putting::axiom_rows` meets its contract: each turn marks one axiom more.
 use Prim.Native.Nat.{ℕ, _+_, _-_, _*_, _≤_, _<_}
 use native.Mathlib.Omega.{arith}
 use mathlib.Core.Path.{_≡_, sym, ap, ap₂, subst, _∙_}
@@ -9,9 +9,9 @@ use Rattle.rows.specs.Bits.{setBit, someBelow}
 use Rattle.rules.specs.Axioms.{catalogueAxioms}
 use Rattle.layout.specs.declared.Shape.{Shape}
 use Rattle.layout.specs.Layout.{shapeOf, table}
-use Rattle.classification.proofs.AxiomTable.{isAxiom, MarksFirst, marks-none, marks-more, axiom-room}
-use Rattle.classification.proofs.axioms.axiom_rows.Statement.{statement}
-use Rattle.classification.proofs.axioms.axiom_rows.Tie as tie
+use Rattle.axiom_rows.proofs.AxiomTable.{isAxiom, MarksFirst, marks-none, marks-more, axiom-room}
+use Rattle.axiom_rows.proofs.putting.axiom_rows.Statement.{statement}
+use Rattle.axiom_rows.proofs.putting.axiom_rows.Tie as tie
 
 abbrev Inv-loop : tie.InvT-loop
 Inv-loop b table₀ w count k₀ table k = (k ≤ count) × MarksFirst b (shapeOf b) table₀ table k

@@ -1,4 +1,4 @@
--- `axioms::put_axioms` meets its contract.
+-- `putting::put_axioms` meets its contract.
 use Prim.Native.Nat.{_≤_}
 use native.Mathlib.Omega.{arith}
 use mathlib.Core.Path.{_≡_, refl, sym, ap, _∙_}
@@ -6,10 +6,10 @@ use mathlib.Core.List.{_++_}
 use lib.ListN.{length, take, drop}
 use lib.Seq.{take-at}
 use Rattle.rows.proofs.RowParts.{prefix-long, front-of}
-use Rattle.classification.proofs.Putting.{puts-axioms, copied-rows}
+use Rattle.axiom_rows.proofs.Cleared.{puts-axioms, copied-rows}
 use borrow.Author.Needs.{needs}
-use Rattle.classification.proofs.axioms.put_axioms.Statement.{statement}
-use Rattle.classification.proofs.axioms.put_axioms.Tie as tie
+use Rattle.axiom_rows.proofs.putting.put_axioms.Statement.{statement}
+use Rattle.axiom_rows.proofs.putting.put_axioms.Tie as tie
 
 slice-relend-prefix-clear : tie.Need-slice-relend-prefix-clear
 slice-relend-prefix-clear c = search needs

@@ -1,0 +1,3 @@
+pub mod AxiomTable
+pub mod Cleared
+pub mod Marking
