@@ -5,8 +5,7 @@ use mathlib.Core.Bool.{Bool}
 use mathlib.Core.List.{List, [], _∷_}
 use lib.ListN.{length}
 use Rattle.catalogue.specs.Outcome.{accepted, refused}
-use Rattle.rules.specs.Rules.{pair}
-use Rattle.layout.specs.Parts.{held}
+use Rattle.store.specs.Says.{says}
 use Rattle.lists.specs.Lists.{Filled}
 use Rattle.reading.specs.Checks.{readChecks, listChecks}
 use Rattle.lookups.specs.Answers.{looked, lookedUp}
@@ -16,13 +15,13 @@ use Rattle.lookups.specs.declared.kinds.Listed.the-variants as lists
 
 -- ---- lookup
 
-pub looked-up : (b : List ℕ) (c d : ℕ) (store : List ℕ) {t : Bool} → readChecks b (c ∷ d ∷ []) store ≡ accepted → held b store (pair c d) ≡ t → lookedUp b c d store ≡ looked accepted t
+pub looked-up : (b : List ℕ) (c d : ℕ) (store : List ℕ) {t : Bool} → readChecks b (c ∷ d ∷ []) store ≡ accepted → says b store c d ≡ t → lookedUp b c d store ≡ looked accepted t
 unfolding lookedUp
 looked-up b c d store e h = ap₂ looked e h
 
 pub looked-refused : (b : List ℕ) (c d : ℕ) (store : List ℕ) {number at : ℕ} → readChecks b (c ∷ d ∷ []) store ≡ refused number at → lookedUp b c d store ≡ looks.Refused number at
 unfolding lookedUp
-looked-refused b c d store e = ap (λ o. looked o (held b store (pair c d))) e
+looked-refused b c d store e = ap (λ o. looked o (says b store c d)) e
 
 -- ---- listing
 

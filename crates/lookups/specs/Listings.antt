@@ -8,17 +8,16 @@ use lib.ListN.{length}
 use Rattle.catalogue.specs.Header.{concepts}
 use Rattle.catalogue.specs.Records.{kind}
 use Rattle.catalogue.specs.Outcome.{Outcome, accepted, refused}
-use Rattle.rules.specs.Rules.{pair}
-use Rattle.layout.specs.Parts.{held}
+use Rattle.store.specs.Says.{says}
 use Rattle.store.specs.Written.{rising}
 use Rattle.lists.specs.Lists.{withFront}
 use Rattle.reading.specs.Checks.{listChecks}
 use Rattle.lookups.specs.declared.kinds.Listed.{Listed}
 use Rattle.lookups.specs.declared.kinds.Listed.the-variants.{Count, Refused}
 
--- C is atomic, and the store has C⊑D.
+-- C is atomic, and the store says C⊑D.
 unfoldable pub atomicUnder : (b store : List ℕ) (d c : ℕ) → Bool
-atomicUnder b store d c = eqb (kind b c) 0 && held b store (pair c d)
+atomicUnder b store d c = eqb (kind b c) 0 && says b store c d
 
 -- The atomic concepts under D, rising.
 unfoldable pub kindsUnder : (b : List ℕ) (d : ℕ) (store : List ℕ) → List ℕ

@@ -20,9 +20,11 @@ use Rattle.catalogue.proofs.Accepted.{accepted-well-formed}
 use Rattle.booleans.proofs.Booleans.{by-bool, not-both, both}
 use Rattle.rules.specs.Axioms.{Axioms, InRange}
 use Rattle.rules.specs.Occurrence.{Occurs, occurs}
-use Rattle.rules.specs.Rules.{pair, partition}
+use Rattle.rules.specs.Rules.{partition}
 use Rattle.rules.proofs.Occurrence.{occurs-exact, occurs-below}
-use Rattle.layout.specs.Parts.{held}
+use Rattle.rules.proofs.Says.{says-closure}
+use Rattle.store.specs.Says.{says}
+use Rattle.store.proofs.Says.{says-fresh}
 use Rattle.store.specs.Written.{axiomCount}
 use Rattle.store.specs.Fresh.{Fresh}
 use Rattle.store.specs.Checks.{every, listFits, askList, askNumbers}
@@ -51,18 +53,18 @@ module _ (b : List ℕ) (F : Axioms) (store : List ℕ) (catalogue : checked b �
   wf : WellFormed b
   wf = accepted-well-formed catalogue
 
-  -- An atomic concept that the store has under D is a kind under D, and a kind under D is one.
+  -- An atomic concept that the store says is under D is a kind under D, and a kind under D is one.
   under-means : (d : ℕ) → Occurs b F d → (c : ℕ) → (atomicUnder b store d c ≡ true) ↔ KindUnder b F d c
   unfolding atomicUnder partition
   under-means d p c = (only, all)
     where
       has : Bool
-      has = held b store (pair c d)
+      has = says b store c d
 
       only : (eqb (kind b c) 0 && has) ≡ true → KindUnder b F d c
       only e =
           let (k, h) = both (eqb (kind b c) 0) has .0 e in
-          let o : Occurs b F c = occurs-exact b F wf range c .0 (partition-marked b F (occurs b F) (fresh .set (pair c d) .0 h)) in
+          let o : Occurs b F c = occurs-exact b F wf range c .0 (partition-marked b F (occurs b F) (says-closure b F c d .0 (says-fresh b F store fresh c d .0 h))) in
           (eqb-true (kind b c) 0 k, o, meant b F store catalogue range few fresh c d o p .0 .0 h)
 
       all : KindUnder b F d c → (eqb (kind b c) 0 && has) ≡ true

@@ -1,7 +1,7 @@
 -- Demands 1 and 2 of the calls that read: what their answers mean from a store classified afresh, under the same catalogue.
 use Prim.Native.Nat.{ℕ, _≤_, _<_}
 use native.Mathlib.Omega.{arith}
-use mathlib.Core.Path.{_≡_, refl, sym, ap, _∙_}
+use mathlib.Core.Path.{_≡_, refl, sym, ap, subst, _∙_}
 use mathlib.Core.Bool.{Bool, true, false}
 use mathlib.Core.Logic.{_↔_, _⊎_, inl, inr}
 use mathlib.Core.List.{List, [], _∷_}
@@ -18,11 +18,12 @@ use Rattle.catalogue.proofs.Accepted.{accepted-well-formed}
 use Rattle.booleans.proofs.Booleans.{by-bool, not-both, both}
 use Rattle.rules.specs.Axioms.{Axioms, InRange}
 use Rattle.rules.specs.Occurrence.{Occurs, occurs}
-use Rattle.rules.specs.Rules.{pair}
 use Rattle.rules.specs.Models.{Entails, Refuted}
 use Rattle.rules.proofs.Occurrence.{occurs-exact, occurs-below}
 use Rattle.rules.proofs.DemandTwo.{demand-two-closure}
 use Rattle.layout.specs.Parts.{held}
+use Rattle.store.specs.Says.{says}
+use Rattle.store.proofs.Says.{says-pair}
 use Rattle.store.specs.Written.{axiomCount}
 use Rattle.store.specs.Fresh.{Fresh}
 use Rattle.store.specs.Checks.{every, askStore, askSpare, askLimit, askNumbers}
@@ -89,8 +90,11 @@ module _ (b : List ℕ) (F : Axioms) (store : List ℕ) (catalogue : checked b �
   occur-names : (c d : ℕ) → (every (occurs b F) (c ∷ d ∷ []) ≡ true) ↔ (Occurs b F c × Occurs b F d)
   occur-names = two-decide (occurs b F) (occurs-exact b F wf range)
 
-  pub meant : (c d : ℕ) → Occurs b F c → Occurs b F d → ((held b store (pair c d) ≡ true) ↔ Entails b F c d) × ((held b store (pair c d) ≡ false) ↔ Refuted b F c d)
-  meant = demand-two-closure b F (held b store) wf range (fresh .set)
+  -- What the store says of two concepts that occur.
+  pub meant : (c d : ℕ) → Occurs b F c → Occurs b F d → ((says b store c d ≡ true) ↔ Entails b F c d) × ((says b store c d ≡ false) ↔ Refuted b F c d)
+  meant c d o p =
+      subst (λ (t : Bool). ((t ≡ true) ↔ Entails b F c d) × ((t ≡ false) ↔ Refuted b F c d)) (sym (says-pair b store c d))
+      (demand-two-closure b F (held b store) wf range (fresh .set) c d o p)
 
   -- Where 15 says no, where 19 does, and where both say yes.
   outside-means : (c d : ℕ) (r : Looked) → r ≡ Refused 15 0 → ¬ ((c < concepts b) × (d < concepts b)) → LookupMeans b F c d r
@@ -114,7 +118,7 @@ module _ (b : List ℕ) (F : Axioms) (store : List ℕ) (catalogue : checked b �
         one-of = inr (inr (inl e));
       }
 
-  answer-means : (c d : ℕ) (r : Looked) (t : Bool) → held b store (pair c d) ≡ t → r ≡ looked accepted t → Occurs b F c × Occurs b F d → LookupMeans b F c d r
+  answer-means : (c d : ℕ) (r : Looked) (t : Bool) → says b store c d ≡ t → r ≡ looked accepted t → Occurs b F c × Occurs b F d → LookupMeans b F c d r
   answer-means c d r true h e (o, p) =
       let (yes-is, no-is) = meant c d o p in
       let below : (c < concepts b) × (d < concepts b) = (occurs-below b F wf range c o, occurs-below b F wf range d p) in
@@ -145,7 +149,7 @@ module _ (b : List ℕ) (F : Axioms) (store : List ℕ) (catalogue : checked b �
       (λ below.
       by-bool (every (occurs b F) (c ∷ d ∷ []))
       (λ occur.
-      answer-means c d (lookedUp b c d store) (held b store (pair c d)) refl (looked-up b c d store (asks ∙ ask-yes 15 0 _ below ∙ ask-yes 19 0 _ occur) refl) (occur-names c d .0 occur))
+      answer-means c d (lookedUp b c d store) (says b store c d) refl (looked-up b c d store (asks ∙ ask-yes 15 0 _ below ∙ ask-yes 19 0 _ occur) refl) (occur-names c d .0 occur))
       (λ missing.
       absent-means c d (lookedUp b c d store) (looked-refused b c d store (asks ∙ ask-yes 15 0 _ below ∙ ask-no 19 0 _ missing)) (below-names c d .0 below)
       (λ o. not-both (occur-names c d .1 o) missing)))

@@ -35,6 +35,7 @@ use Rattle.meaning.specs.Meaning.{RowMeans}
 use Rattle.row_parts.specs.declared.Handed.{Handed}
 use Rattle.row_parts.specs.declared.Handed.the-variants.{Row, Refused}
 use Rattle.store.proofs.Checks.{every-one}
+use Rattle.store.proofs.Says.{says-pair}
 use Rattle.row_parts.proofs.Answered.{row-accepted, row-refused}
 use Rattle.meaning.proofs.DemandLookup.{read-asks, meant}
 
@@ -111,7 +112,7 @@ module _ (b : List ℕ) (F : Axioms) (store : RefT (List ℕ)) (catalogue : chec
           hands-out = (λ _. o, λ _. is);
           bits = λ _ d p.
               let m = meant b F (now store) catalogue range few fresh c d o p in
-              let i = bit-is e (below c o) d (omega (arith, below d p, width-fits b)) in
+              let i = bit-is e (below c o) d (omega (arith, below d p, width-fits b)) ∙ sym (says-pair b (now store) c d) in
               ((λ t. m .0 .0 (sym i ∙ t), λ n. i ∙ m .0 .1 n), (λ t. m .1 .0 (sym i ∙ t), λ n. i ∙ m .1 .1 n));
           others = bit-clear e (below c o);
           absent = (λ q. absurd (row-not-refused is q), λ (_, n). absurd (n o));

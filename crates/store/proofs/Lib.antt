@@ -13,4 +13,5 @@ pub mod WrittenBack
 pub mod AtomicConcepts
 pub mod Checks
 pub mod Work
+pub mod Says
 pub mod Examples

@@ -1,4 +1,5 @@
 pub mod Fresh
+pub mod Says
 pub mod Written
 pub mod Checks
 pub mod Work

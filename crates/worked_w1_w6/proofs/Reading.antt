@@ -27,6 +27,8 @@ use Rattle.store.specs.Written.{numbered, axiomCount, rising}
 use Rattle.store.specs.Fresh.{Fresh}
 use Rattle.store.specs.Checks.{every, listFits, askList, askNumbers}
 use Rattle.store.proofs.Examples.{w1-axiom-count, w1-written}
+use Rattle.store.proofs.Says.{says-pair}
+use Rattle.store.specs.Says.{says}
 use Rattle.lists.specs.Lists.{withFront}
 use Rattle.reading.specs.Checks.{askOccurs, readChecks, listChecks}
 use Rattle.lookups.specs.Answers.{lookedUp}
@@ -94,7 +96,7 @@ unfolding has
 w2-no l = false≢true (w1-classified .rows-right 3 0 .1 l)
 
 kinds3 : kindsUnder w1 3 w1Store ≡ 0 ∷ 3 ∷ []
-unfolding closureOf w1 w1Store byteBit bit shapeOf place rowOf marks blockLength tableLength width setRows held kindsUnder atomicUnder rising
+unfolding closureOf w1 w1Store byteBit bit shapeOf place rowOf marks blockLength tableLength width setRows held says kindsUnder atomicUnder rising
 kinds3 = refl
 
 kinds6 : kindsUnder w1 6 w1Store ≡ 0 ∷ []
@@ -108,8 +110,8 @@ module _ (store : List ℕ) (fresh : Fresh w1 axioms1 store) where
 
   pub w2-lookups : (lookedUp w1 0 3 store ≡ Yes) × (lookedUp w1 3 0 store ≡ No)
   w2-lookups = (
-    looked-up w1 0 3 store (asks (0 ∷ 3 ∷ []) ∙ named03) (fresh .set (pair 0 3) .1 w2-yes),
-    looked-up w1 3 0 store (asks (3 ∷ 0 ∷ []) ∙ named30) (not-true-false (held w1 store (pair 3 0)) (λ h. w2-no (fresh .set (pair 3 0) .0 h))),
+    looked-up w1 0 3 store (asks (0 ∷ 3 ∷ []) ∙ named03) (says-pair w1 store 0 3 ∙ fresh .set (pair 0 3) .1 w2-yes),
+    looked-up w1 3 0 store (asks (3 ∷ 0 ∷ []) ∙ named30) (says-pair w1 store 3 0 ∙ not-true-false (held w1 store (pair 3 0)) (λ h. w2-no (fresh .set (pair 3 0) .0 h))),
   )
 
   pub w1-row : (rowAnswer w1 0 store ≡ Row 7 1) × (take 1 (drop 7 store) ≡ 89 ∷ [])
@@ -118,7 +120,7 @@ module _ (store : List ℕ) (fresh : Fresh w1 axioms1 store) where
 
   -- It holds what W1's store holds, and so lists the same.
   same-kinds : (d : ℕ) → kindsUnder w1 d store ≡ kindsUnder w1 d w1Store
-  unfolding kindsUnder atomicUnder
+  unfolding says kindsUnder atomicUnder
   same-kinds d =
       ap (λ (h : Expression → Bool). rising (λ c. eqb (kind w1 c) 0 && h (pair c d)) (concepts w1))
       (fun-ext (λ e. decides-agree (held w1 store) (held w1 w1Store) (Closure w1 axioms1) (fresh .set) (w1-fresh .set) e))

@@ -40,6 +40,7 @@ use Rattle.occurrence.proofs.Atomic.{atomic-none, atomic-more}
 use Rattle.store.specs.Written.{rising, numbered, axiomCount, sidesOf, axiomRecords, setWord, written}
 use Rattle.store.specs.Fresh.{Fresh}
 use Rattle.store.proofs.Stored.{parts-marked, marked-used}
+use Rattle.store.proofs.Says.{says-pair}
 use Rattle.store.proofs.WrittenBytes.{bytes-append}
 use Rattle.axiom_rows.proofs.Cleared.{clear-table}
 use Rattle.classification.proofs.WithoutAxioms.{on-diagonal, atomic-marks}
@@ -180,7 +181,8 @@ module _ (b store : List ℕ) (catalogue : checked b ≡ accepted) (front : take
   w8-others c d x y apart =
       means .no-means c d x y .1
       (meant b none store catalogue (none-in-range b) few fresh c d (w8-occur b c .1 x) (w8-occur b d .1 y) .1 .0
-      (not-true-false (held b store (pair c d))
+      (says-pair b store c d
+      ∙ not-true-false (held b store (pair c d))
       (λ h. let (z, _, e) = w8-derived b (accepted-well-formed catalogue) (pair c d) .0 (fresh .set (pair c d) .0 h) in apart (let p : c ≡ d = cc in p))))
 
   pub w8-absent : (c d : ℕ) → c < concepts b → d < concepts b → ¬ (Atomic b c × Atomic b d) → lookedUp b c d store ≡ Refused 19 0

@@ -8,6 +8,7 @@ use Rattle.catalogue.specs.Examples.{w1}
 use Rattle.rows.specs.Bits.{byteBit, bit, setBit, someBelow, place}
 use Rattle.layout.specs.Parts.{width, used, rowCount, setFrom, spareClear}
 use Rattle.store.specs.Written.{rising}
+use Rattle.store.specs.Says.{says}
 use Rattle.store.specs.Checks.{storeFits, askStore, askSpare}
 use Rattle.reading.specs.Checks.{openChecks, contentChecks, readChecks}
 use Rattle.lookups.specs.Answers.{lookedUp}
@@ -16,5 +17,5 @@ use Rattle.worked_w1_w6.specs.Stores.{w1Store}
 use Rattle.worked_common.specs.Computed.{checkedOf}
 
 pub w9-lookup : map (λ (r : ℕ). lookedUp w1 0 3 (setBit w1Store (8 * r + 7))) (rising (λ (r : ℕ). true) 35) ≡ replicate 35 (Refused 13 0)
-unfolding checkedOf w1 byteBit bit setBit someBelow rising place width used rowCount setFrom spareClear storeFits askStore askSpare openChecks contentChecks readChecks w1Store lookedUp
+unfolding checkedOf w1 byteBit bit setBit someBelow rising place width used rowCount setFrom spareClear storeFits askStore askSpare openChecks contentChecks readChecks w1Store says lookedUp
 w9-lookup = refl

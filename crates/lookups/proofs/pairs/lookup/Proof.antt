@@ -3,6 +3,7 @@ use mathlib.Core.Path.{sym, ap, _∙_}
 use mathlib.Core.List.{[], _∷_}
 use denote.Ref.{now}
 use Rattle.catalogue.specs.Verdicts.{outcomeOf}
+use Rattle.store.proofs.Says.{says-pair}
 use Rattle.reading.specs.Checks.{Named}
 use Rattle.reading.proofs.Acceptance.{read-named, named-two}
 use Rattle.lookups.proofs.Answered.{looked-up, looked-refused}
@@ -27,13 +28,13 @@ has-pair-requires c κs =
     search needs
 
 returns : tie.Need-returns
-returns c = sym (looked-up _ _ _ _ (sym (c .before .before .before .before .check-reading .ensures) ∙ ap outcomeOf (c .before .before .enum-told .given .1)) (sym (c .before .has-pair .ensures) ∙ c .if1 .taken))
+returns c = sym (looked-up _ _ _ _ (sym (c .before .before .before .before .check-reading .ensures) ∙ ap outcomeOf (c .before .before .enum-told .given .1)) (says-pair _ _ _ _ ∙ sym (c .before .has-pair .ensures) ∙ c .if1 .taken))
 
 returns-2 : tie.Need-returns-2
 returns-2 c = sym (looked-refused _ _ _ _ (sym (c .before .before .before .check-reading .ensures) ∙ ap outcomeOf (c .before .verdict .given .1)))
 
 returns-3 : tie.Need-returns-3
-returns-3 c = sym (looked-up _ _ _ _ (sym (c .before .before .before .before .check-reading .ensures) ∙ ap outcomeOf (c .before .before .enum-told .given .1)) (sym (c .before .has-pair .ensures) ∙ c .if1 .left))
+returns-3 c = sym (looked-up _ _ _ _ (sym (c .before .before .before .before .check-reading .ensures) ∙ ap outcomeOf (c .before .before .enum-told .given .1)) (says-pair _ _ _ _ ∙ sym (c .before .has-pair .ensures) ∙ c .if1 .left))
 
 pub lookup-spec : {M : Type 1} → statement M
 lookup-spec =
