@@ -12,7 +12,7 @@ use Rattle.rules.specs.Counts.{Size, Pairs, Links}
 use Rattle.layout.specs.Parts.{used, workUsed}
 use Rattle.store.specs.Fresh.{Fresh}
 use Rattle.store.specs.Checks.{askStore, askWork}
-use Rattle.store.specs.Work.{zeroed, workAfter}
+use Rattle.store.specs.Work.{zeroed, workAfter, atNone}
 use Rattle.classification.specs.declared.Classified.{Classified}
 use Rattle.classification.specs.declared.Classified.the-variants.{Done, Refused}
 
@@ -38,7 +38,7 @@ linksOf (Refused number at) = 0
 pub record Refuses (b : List ℕ) (number at : ℕ) (store work : List ℕ) (answer : Classified) (store' work' : List ℕ) : Type 0 where
   pub answers : outcomeOf answer ≡ refused number at
   pub store-kept : store' ≡ store
-  pub work-kept : work' ≡ workAfter (workUsed b) number work
+  pub work-kept : work' ≡ workAfter atNone (workUsed b) number work
 
 -- Accepted: the store is classified afresh from the catalogue's axioms, whatever it held, and the work space is zero; the bytes past their used parts
 -- are kept. The answer holds the counts of pairs and of links.

@@ -11,10 +11,8 @@ use Rattle.catalogue.specs.Checks.{headerFits, totalRight, countsInLimits, offs
 use Rattle.catalogue.specs.Checks.{recordChecks, catalogueChecks, checked}
 use Rattle.catalogue.proofs.Outcomes.{never-both}
 use Rattle.catalogue.proofs.Accepted.{accepted-well-formed, accepted-total}
-use Rattle.layout.specs.Parts.{workUsed}
 use Rattle.store.proofs.Work.{work-stays}
 use Rattle.classification.proofs.Outcomes.{answer-outcome}
-use Rattle.edits.specs.Edits.{Lent}
 use Rattle.edits.proofs.Outcomes.{answer-outcome as change-answer}
 use Rattle.writing.proofs.Outcomes.{answer-outcome as write-answer, refused-keeps}
 use Rattle.lookups.specs.Listings.{kindsUnder, listAfter}
@@ -23,7 +21,7 @@ use Rattle.lookups.proofs.Outcomes.{lookup-outcome, list-outcome}
 use Rattle.row_parts.proofs.Outcomes.{row-outcome}
 use Rattle.meaning.proofs.DemandEntries.{listing-finds}
 use Rattle.sizing.proofs.Answered.{answer-outcome as check-answer}
-use Rattle.demands.specs.PublicCalls.{PublicCall, check, classify, change, lookup, listing, row, write}
+use Rattle.demands.specs.PublicCalls.{PublicCall, check, classify, change, lookup, listing, row, write, Buffers, lentOf, takes, share}
 use Rattle.demands.specs.PublicCalls.{Returns, measures, classifies, changes, looks-up, lists, hands-out, writes}
 use Rattle.demands.specs.DemandOne.{Fault, damagedCatalogue, Wrong, refusal, faults, ByFirst, none, here, later, Kept, RefusedFirst, DemandOne, EmptyTold}
 use Rattle.demands.proofs.AfterCalls.{after-calls}
@@ -71,7 +69,7 @@ after-catalogue write = (_, refl)
 
 -- ---- what follows from the first fault
 
-module _ (b : List ℕ) (u : Lent) where
+module _ (b : List ℕ) (u : Buffers) where
   none-accepted : {fs : List Fault} {o : Outcome} → ByFirst b u fs o → ((f : Fault) → List·Memᴰ f fs → ¬ (Wrong b u f)) → o ≡ accepted
   none-accepted none clean = refl
   none-accepted (here {f = f} w e) clean = absurd (clean f (List·Memᴰ·head refl) w)
@@ -99,7 +97,7 @@ module _ (b : List ℕ) (u : Lent) where
       go accepted e = absurd (damaged (accepted-well-formed e, accepted-total b e))
       go (refused number at) e = let (low, high) = nine-questions b .number-is number at e in (number, at, same ∙ e, low, high)
 
-  refused-first : (c : PublicCall) (o : Outcome) (v : Lent) → ByFirst b u (faults c) o → ((number at : ℕ) → o ≡ refused number at → Kept b number u v)
+  refused-first : (c : PublicCall) (o : Outcome) (v : Buffers) → ByFirst b u (faults c) o → ((number at : ℕ) → o ≡ refused number at → Kept (share b c) number u v)
       → RefusedFirst b u c o v
   refused-first c o v first keeps =
       record {
@@ -111,47 +109,48 @@ module _ (b : List ℕ) (u : Lent) where
       }
 
   -- A call that is lent nothing to write to.
-  read-only : (number : ℕ) → Kept b number u u
-  read-only number = record { store = refl; work = sym (work-stays (workUsed b) number (u .work)); list = refl }
+  read-only : (c : PublicCall) (number : ℕ) → Kept (share b c) number u u
+  read-only c number = record { store = refl; work = sym (work-stays (takes b c) number (u .work)); list = refl; output = refl }
 
 -- ---- each call
 
-calls : (b : List ℕ) (u : Lent) (c : PublicCall) (o : Outcome) (v : Lent) → Returns b u c o v → RefusedFirst b u c o v
+calls : (b : List ℕ) (u : Buffers) (c : PublicCall) (o : Outcome) (v : Buffers) → Returns b u c o v → RefusedFirst b u c o v
 calls b u c o v (measures {a = a} e) =
     let answer = check-answer b a e in
-    refused-first b u c o v (subst (ByFirst b u (faults c)) (sym answer) (check-asked b u)) (λ number at _. read-only b u number)
+    refused-first b u c o v (subst (ByFirst b u (faults c)) (sym answer) (check-asked b u)) (λ number at _. read-only b u c number)
 calls b u c o v (classifies {a = a} {store = store} {work = work} call) =
     let answer = answer-outcome b (u .store) (u .work) a store work call in
     refused-first b u c o v (subst (ByFirst b u (faults c)) (sym answer) (classify-asked b u))
     (λ number at e.
     let r = call .refuses number at (sym answer ∙ e) in
-    record { store = r .store-kept; work = r .work-kept; list = refl })
-calls b u c o v (changes {gone = gone} {new = new} {a = a} call) =
-    let answer = change-answer b gone new u a v call in
+    record { store = r .store-kept; work = r .work-kept; list = refl; output = refl })
+calls b u c o v (changes {gone = gone} {new = new} {a = a} {v = left} call) =
+    let answer = change-answer b gone new (lentOf u) a left call in
     refused-first b u c o v (subst (ByFirst b u (faults c)) (sym answer) (change-asked b u gone new))
     (λ number at e.
     let k = call .refuses number at (sym answer ∙ e) in
-    record { store = k .store-kept; work = k .work-kept; list = k .list-kept })
+    record { store = k .store-kept; work = k .work-kept; list = k .list-kept; output = refl })
 calls b u c o v (looks-up {c = x} {d = y} {a = a} e) =
     let answer = lookup-outcome b x y (u .store) a e in
-    refused-first b u c o v (subst (ByFirst b u (faults c)) (sym answer) (read-asked b u (x ∷ y ∷ []))) (λ number at _. read-only b u number)
+    refused-first b u c o v (subst (ByFirst b u (faults c)) (sym answer) (read-asked b u (x ∷ y ∷ []))) (λ number at _. read-only b u c number)
 calls b u c o v (lists {d = d} {a = a} {list = list} f) =
     let answer = list-outcome a f in
     refused-first b u c o v (subst (ByFirst b u (faults c)) (sym answer) (listing-asked b u d))
     (λ number at e.
     record {
       store = refl;
-      work = sym (work-stays (workUsed b) number (u .work));
+      work = sym (work-stays 0 number (u .work));
       list = f .entries ∙ ap (λ (x : Outcome). listAfter x (kindsUnder b d (u .store)) (u .list)) (sym answer ∙ e);
+      output = refl;
     })
 calls b u c o v (hands-out {c = x} {a = a} store part same h e) =
     let answer = row-outcome b x (u .store) a (e ∙ ap (rowAnswer b x) same) in
-    refused-first b u c o v (subst (ByFirst b u (faults c)) (sym answer) (read-asked b u (x ∷ []))) (λ number at _. read-only b u number)
+    refused-first b u c o v (subst (ByFirst b u (faults c)) (sym answer) (read-asked b u (x ∷ []))) (λ number at _. read-only b u c number)
 calls b u c o v (writes {a = a} {output = output} w) =
     let answer = write-answer a w in
     refused-first b u c o v (subst (ByFirst b u (faults c)) (sym answer) (write-asked b u))
     (λ number at e.
-    record { store = refl; work = sym (work-stays (workUsed b) number (u .work)); list = refused-keeps a w e })
+    record { store = refl; work = sym (work-stays 0 number (u .work)); list = refl; output = refused-keeps a w e })
 
 pub demand-one : DemandOne
 demand-one =

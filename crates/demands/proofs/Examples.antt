@@ -23,13 +23,12 @@ use Rattle.writing.specs.declared.Wrote.the-variants.{Length}
 use Rattle.classification.specs.declared.Classified.the-variants.{Done}
 use Rattle.classification.specs.Classified.{classifyChecks, Classifies}
 use Rattle.classification.proofs.Checks.{all-accepted}
-use Rattle.edits.specs.Edits.{lend}
 use Rattle.worked_w1_w6.specs.Stores.{w1Store}
 use Rattle.worked_w1_w6.proofs.Reading.{w1-writes}
 use Rattle.worked.proofs.Worked.{worked}
 use Rattle.demands.specs.Afresh.{ClassifiesAlike}
 use Rattle.demands.specs.Sequences.{Turn, Sequence, inForceAfter}
-use Rattle.demands.specs.PublicCalls.{PublicCall, Returns}
+use Rattle.demands.specs.PublicCalls.{PublicCall, buffers, Returns}
 use Rattle.demands.proofs.AfterCalls.{classifyTurn, classify-alone, classify-alone-axioms}
 use Rattle.demands.proofs.DemandTwo.{demand-two}
 use Rattle.demands.proofs.ClassifyWritten.{calls-write-classify}
@@ -57,7 +56,7 @@ w1-classifies =
     }
 
 -- It is a public call that returned, lent no list.
-pub w1-returns : Returns w1 (lend (replicate 35 0) (replicate 28 0) []) PublicCall.classify accepted (lend w1Store (replicate 28 0) [])
+pub w1-returns : Returns w1 (buffers (replicate 35 0) (replicate 28 0) [] []) PublicCall.classify accepted (buffers w1Store (replicate 28 0) [] [])
 w1-returns = Returns.classifies w1-classifies
 
 -- This classify alone, as a list of calls.

@@ -31,11 +31,11 @@ use Rattle.classification.specs.Classified.{classifyChecks}
 use Rattle.edits.specs.Lists.{axiomsIn, leftIn, rightIn, sidesIn, edited}
 use Rattle.edits.specs.Questions.{isWhole, repeats, noneTwice, allInForce, noneInForce, askWhole, askTwice, askInForce, askNew, askRoom}
 use Rattle.edits.specs.Questions.{lengthChecks, axiomChecks, contentChecks as changeContent, changeChecks}
-use Rattle.edits.specs.Edits.{Lent, asked}
+use Rattle.edits.specs.Edits.{asked}
 use Rattle.edits.proofs.Lists.{among-exact, whole-long, in-force-at, new-at}
 use Rattle.writing.specs.Write.{outputFits, storeChecks, writeChecks}
 use Rattle.reading.specs.Checks.{askOccurs, openChecks, contentChecks, readChecks, listChecks}
-use Rattle.demands.specs.PublicCalls.{check, classify, change, listing, write}
+use Rattle.demands.specs.PublicCalls.{PublicCall, check, classify, change, listing, write, Buffers, lentOf, takes}
 use Rattle.demands.specs.DemandOne.{Fault, damagedCatalogue, shortStore, shortWork, shortList, shortOutput, notWhole, twice, strayBit, outOfRange}
 use Rattle.demands.specs.DemandOne.{addedTwice, notInForce, tooManyAxioms, noRoom, unused, NotWhole, Wrong, refusal, readFaults, faults, ByFirst, none, here, later}
 
@@ -78,7 +78,7 @@ stray b store e =
 
 -- ---- one question, and then the rest
 
-module _ (b : List ℕ) (u : Lent) where
+module _ (b : List ℕ) (u : Buffers) where
   step : (f : Fault) {fs : List Fault} (t : Bool) (number : ℕ) {rest : Outcome} → refusal b f ≡ refused number 0 → (t ≡ false → Wrong b u f)
       → (t ≡ true → ¬ (Wrong b u f)) → (t ≡ true → ByFirst b u fs rest) → ByFirst b u (f ∷ fs) (ask t number 0 rest)
   unfolding ask
@@ -99,9 +99,11 @@ module _ (b : List ℕ) (u : Lent) where
     unfolding askStore storeFits
     store-asked more = step shortStore (leb (used b) (length (u .store))) 10 refl (leb-false _ _) (not-short _ _) more
 
-    work-asked : ByFirst b u fs rest → ByFirst b u (shortWork ∷ fs) (askWork b (length (u .work)) rest)
+    work-asked : (c : PublicCall) → takes b c ≡ workUsed b → ByFirst b u fs rest → ByFirst b u (shortWork c ∷ fs) (askWork b (length (u .work)) rest)
     unfolding askWork workFits
-    work-asked more = step shortWork (leb (workUsed b) (length (u .work))) 11 refl (leb-false _ _) (not-short _ _) (λ _. more)
+    work-asked c e more =
+        subst (λ (n : ℕ). ByFirst b u (shortWork c ∷ fs) (ask (leb n (length (u .work))) 11 0 rest)) e
+        (step (shortWork c) (leb (takes b c) (length (u .work))) 11 refl (leb-false _ _) (not-short _ _) (λ _. more))
 
     list-asked : ByFirst b u fs rest → ByFirst b u (shortList ∷ fs) (askList b (length (u .list)) rest)
     unfolding askList listFits
@@ -170,10 +172,10 @@ module _ (b : List ℕ) (u : Lent) where
     room-asked gone new more =
         step (noRoom gone new) (leb (axiomCount b (edited (inForce b (u .store)) gone new)) 4096) 17 refl (leb-false _ _) (not-short _ _) (λ _. more)
 
-    output-asked : ByFirst b u fs rest → ByFirst b u (shortOutput ∷ fs) (ask (outputFits b (u .store) (length (u .list))) 20 0 rest)
+    output-asked : ByFirst b u fs rest → ByFirst b u (shortOutput ∷ fs) (ask (outputFits b (u .store) (length (u .output))) 20 0 rest)
     unfolding outputFits
     output-asked more =
-        step shortOutput (leb (length (written b (inForce b (u .store)))) (length (u .list))) 20 refl (leb-false _ _) (not-short _ _) (λ _. more)
+        step shortOutput (leb (length (written b (inForce b (u .store)))) (length (u .output))) 20 refl (leb-false _ _) (not-short _ _) (λ _. more)
 
     -- 19 is put to a catalogue that is accepted and to a store without a stray bit.
     occurs-asked : WellFormed b → spareClear b (u .store) ≡ true → (names : List ℕ) → ByFirst b u fs rest
@@ -195,14 +197,14 @@ module _ (b : List ℕ) (u : Lent) where
 
   pub classify-asked : ByFirst b u (faults classify) (classifyChecks b (length (u .store)) (length (u .work)))
   unfolding classifyChecks
-  classify-asked = ask-catalogue _ (λ _. store-asked _ (λ _. work-asked _ none))
+  classify-asked = ask-catalogue _ (λ _. store-asked _ (λ _. work-asked _ classify refl none))
 
-  pub change-asked : (gone new : List ℕ) → ByFirst b u (faults (change gone new)) (asked b gone new u)
+  pub change-asked : (gone new : List ℕ) → ByFirst b u (faults (change gone new)) (asked b gone new (lentOf u))
   unfolding asked changeChecks lengthChecks changeContent axiomChecks
   change-asked gone new =
       let axioms = in-force-asked _ gone (new-asked _ new (room-asked _ gone new none)) in
       let content = twice-asked _ (gone ++ new) (spare-asked _ (λ _. limit-asked _ (numbers-asked _ (sidesIn (gone ++ new)) axioms))) in
-      ask-catalogue _ (λ _. store-asked _ (λ _. work-asked _ (list-asked _ (whole-asked _ gone new content))))
+      ask-catalogue _ (λ _. store-asked _ (λ _. work-asked _ (change gone new) refl (list-asked _ (whole-asked _ gone new content))))
 
   content-asked : WellFormed b → (names : List ℕ) → ByFirst b u (readFaults names) (contentChecks b names (u .store))
   unfolding contentChecks
@@ -216,6 +218,6 @@ module _ (b : List ℕ) (u : Lent) where
   unfolding listChecks openChecks
   listing-asked d = ask-catalogue _ (λ e. store-asked _ (λ _. list-asked _ (content-asked (accepted-well-formed e) (d ∷ []))))
 
-  pub write-asked : ByFirst b u (faults write) (writeChecks b (u .store) (length (u .list)))
+  pub write-asked : ByFirst b u (faults write) (writeChecks b (u .store) (length (u .output)))
   unfolding writeChecks storeChecks
   write-asked = ask-catalogue _ (λ _. store-asked _ (λ _. spare-asked _ (λ _. limit-asked _ (output-asked _ none))))

@@ -12,16 +12,15 @@ use Rattle.catalogue.specs.Checks.{checked}
 use Rattle.catalogue.specs.WellFormed.{WellFormed}
 use Rattle.rules.specs.Axioms.{Axioms}
 use Rattle.rules.specs.Occurrence.{Occurs}
-use Rattle.layout.specs.Parts.{width, used, workUsed, inForce, rowCount}
+use Rattle.layout.specs.Parts.{width, used, inForce, rowCount}
 use Rattle.store.specs.Work.{workAfter}
 use Rattle.store.specs.Written.{axiomCount, written}
 use Rattle.edits.specs.Lists.{axiomsIn, leftIn, rightIn, sidesIn, edited}
-use Rattle.edits.specs.Edits.{Lent}
 use Rattle.lookups.specs.Listings.{Lists}
 use Rattle.meaning.specs.Meaning.{KindUnder}
 use Rattle.lookups.specs.declared.kinds.Listed.the-variants.{Count}
 use Rattle.demands.specs.Sequences.{AfterCalls}
-use Rattle.demands.specs.PublicCalls.{PublicCall, check, classify, change, lookup, listing, row, write, Returns}
+use Rattle.demands.specs.PublicCalls.{PublicCall, check, classify, change, lookup, listing, row, write, Buffers, Share, share, Returns}
 
 -- "Refused first: a damaged catalogue, a buffer too short, a stray bit in a store, a concept number out of range, an axiom added twice or withdrawn when not
 -- in force, more than 4,096 axioms, a lookup of a concept that no axiom in force uses." And of a change (document 02, request Four): "a list over 64 axioms
@@ -29,7 +28,7 @@ use Rattle.demands.specs.PublicCalls.{PublicCall, check, classify, chang
 pub data Fault : Type 0 where
   damagedCatalogue : Fault
   shortStore : Fault
-  shortWork : Fault
+  shortWork : (c : PublicCall) → Fault
   shortList : Fault
   shortOutput : Fault
   notWhole : (gone new : List ℕ) → Fault
@@ -47,12 +46,12 @@ abbrev pub NotWhole : List ℕ → Type 0
 NotWhole list = (256 < length list) ⊎ ¬ (length list % 4 ≡ 0)
 
 -- What each of them is, of a catalogue and the buffers lent.
-abbrev pub Wrong : List ℕ → Lent → Fault → Type 0
+abbrev pub Wrong : List ℕ → Buffers → Fault → Type 0
 Wrong b u damagedCatalogue = ¬ (WellFormed b × (total b ≡ length b))
 Wrong b u shortStore = length (u .store) < used b
-Wrong b u shortWork = length (u .work) < workUsed b
+Wrong b u (shortWork c) = length (u .work) < share b c .taken
 Wrong b u shortList = length (u .list) < 2 * concepts b
-Wrong b u shortOutput = length (u .list) < length (written b (inForce b (u .store)))
+Wrong b u shortOutput = length (u .output) < length (written b (inForce b (u .store)))
 Wrong b u (notWhole gone new) = NotWhole gone ⊎ NotWhole new
 Wrong b u (twice list) =
     (j : ℕ) × (k : ℕ) × (j < k) × (k < axiomsIn list) × (leftIn list j ≡ leftIn list k) × (rightIn list j ≡ rightIn list k)
@@ -69,7 +68,7 @@ Wrong b u (unused names) = (c : ℕ) × List·Memᴰ c names × ¬ (Occurs b (in
 abbrev pub refusal : List ℕ → Fault → Outcome
 refusal b damagedCatalogue = checked b
 refusal b shortStore = refused 10 0
-refusal b shortWork = refused 11 0
+refusal b (shortWork c) = refused 11 0
 refusal b shortList = refused 12 0
 refusal b shortOutput = refused 20 0
 refusal b (notWhole gone new) = refused 22 0
@@ -88,9 +87,9 @@ readFaults names = strayBit ∷ tooManyAxioms ∷ outOfRange names ∷ unused na
 
 abbrev pub faults : PublicCall → List Fault
 faults check = damagedCatalogue ∷ []
-faults classify = damagedCatalogue ∷ shortStore ∷ shortWork ∷ []
+faults classify = damagedCatalogue ∷ shortStore ∷ shortWork classify ∷ []
 faults (change gone new) =
-    damagedCatalogue ∷ shortStore ∷ shortWork ∷ shortList ∷ notWhole gone new ∷ twice (gone ++ new) ∷ strayBit ∷ tooManyAxioms
+    damagedCatalogue ∷ shortStore ∷ shortWork (change gone new) ∷ shortList ∷ notWhole gone new ∷ twice (gone ++ new) ∷ strayBit ∷ tooManyAxioms
     ∷ outOfRange (sidesIn (gone ++ new)) ∷ notInForce gone ∷ addedTwice new ∷ noRoom gone new ∷ []
 faults (lookup c d) = damagedCatalogue ∷ shortStore ∷ readFaults (c ∷ d ∷ [])
 faults (listing d) = damagedCatalogue ∷ shortStore ∷ shortList ∷ readFaults (d ∷ [])
@@ -98,26 +97,27 @@ faults (row c) = damagedCatalogue ∷ shortStore ∷ readFaults (c ∷ [])
 faults write = damagedCatalogue ∷ shortStore ∷ strayBit ∷ tooManyAxioms ∷ shortOutput ∷ []
 
 -- Refused for the first of them that is there, by its number and record; accepted where none is.
-pub data ByFirst (b : List ℕ) (u : Lent) : List Fault → Outcome → Type 0 where
+pub data ByFirst (b : List ℕ) (u : Buffers) : List Fault → Outcome → Type 0 where
   none : ByFirst b u [] accepted
   here : {f : Fault} {fs : List Fault} {o : Outcome} → Wrong b u f → o ≡ refusal b f → ByFirst b u (f ∷ fs) o
   later : {f : Fault} {fs : List Fault} {o : Outcome} → ¬ (Wrong b u f) → ByFirst b u fs o → ByFirst b u (f ∷ fs) o
 
--- Every byte lent is as it was, save work space where the number is laid down to zero it (`workAfter`: no number is today).
-pub record Kept (b : List ℕ) (number : ℕ) (u v : Lent) : Type 0 where
+-- Every byte lent is as it was, save the call's share of the work space where the number is laid down to zero it.
+pub record Kept (s : Share) (number : ℕ) (u v : Buffers) : Type 0 where
   pub store : v .store ≡ u .store
-  pub work : v .work ≡ workAfter (workUsed b) number (u .work)
+  pub work : v .work ≡ workAfter (s .zeroes) (s .taken) number (u .work)
   pub list : v .list ≡ u .list
+  pub output : v .output ≡ u .output
 
 -- Demand 1 of a call that returned.
-pub record RefusedFirst (b : List ℕ) (u : Lent) (c : PublicCall) (o : Outcome) (v : Lent) : Type 0 where
+pub record RefusedFirst (b : List ℕ) (u : Buffers) (c : PublicCall) (o : Outcome) (v : Buffers) : Type 0 where
   -- "Refused first: .. Each has its number."
   pub by-first : ByFirst b u (faults c) o
   pub each : (before after : List Fault) (f : Fault) → faults c ≡ before ++ (f ∷ after) → ((g : Fault) → List·Memᴰ g before → ¬ (Wrong b u g)) → Wrong b u f
       → o ≡ refusal b f
   pub damaged : Wrong b u damagedCatalogue → (number : ℕ) × (at : ℕ) × (o ≡ refused number at) × (1 ≤ number) × (number ≤ 9)
   -- "And a refused call changes no byte it was lent, save work space where its number is laid down to zero it."
-  pub keeps : (number at : ℕ) → o ≡ refused number at → Kept b number u v
+  pub keeps : (number at : ℕ) → o ≡ refused number at → Kept (share b c) number u v
   -- "All else is accepted, ends, and answers."
   pub all-else : ((f : Fault) → List·Memᴰ f (faults c) → ¬ (Wrong b u f)) → o ≡ accepted
 
@@ -127,6 +127,6 @@ EmptyTold b F store = (d : ℕ) (list after : List ℕ) → Lists b d store list
 
 -- Demand 1.
 pub record DemandOne : Type 0 where
-  pub calls : (b : List ℕ) (u : Lent) (c : PublicCall) (o : Outcome) (v : Lent) → Returns b u c o v → RefusedFirst b u c o v
+  pub calls : (b : List ℕ) (u : Buffers) (c : PublicCall) (o : Outcome) (v : Buffers) → Returns b u c o v → RefusedFirst b u c o v
   -- "From a store as in demand 3, an empty list comes only when no kind that occurs meets the wish."
   pub empty-list : AfterCalls EmptyTold

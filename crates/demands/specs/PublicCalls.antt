@@ -2,9 +2,12 @@
 -- left its buffers in some state.
 use Prim.Native.Nat.{ℕ}
 use mathlib.Core.Path.{_≡_}
+use mathlib.Core.Bool.{Bool}
 use mathlib.Core.List.{List}
 use denote.Ref.{RefT, now}
 use Rattle.catalogue.specs.Outcome.{Outcome}
+use Rattle.layout.specs.Parts.{workUsed}
+use Rattle.store.specs.Work.{atNone}
 use Rattle.classification.specs.Classified.{Classifies, outcomeOf as classifyOutcome}
 use Rattle.classification.specs.declared.Classified.{Classified}
 use Rattle.edits.specs.Answers.{outcomeOf as changeOutcome}
@@ -32,19 +35,54 @@ pub data PublicCall : Type 0 where
   row : (c : ℕ) → PublicCall
   write : PublicCall
 
+-- ---- the buffers
+
+-- Those that a call may be lent: store, work space, the list of a change or of a listing, and an output.
+pub record Buffers : Type 0 where
+  pub store : List ℕ
+  pub work : List ℕ
+  pub list : List ℕ
+  pub output : List ℕ
+
+abbrev pub buffers : (store work list output : List ℕ) → Buffers
+buffers store work list output = record { store = store; work = work; list = list; output = output }
+
+-- Those of a change, which is lent no output.
+abbrev pub lentOf : Buffers → Lent
+lentOf u = lend (u .store) (u .work) (u .list)
+
+-- A call's share of the work space: how many bytes it takes, and the numbers at which a refusal leaves these zero.
+pub record Share : Type 0 where
+  pub taken : ℕ
+  pub zeroes : ℕ → Bool
+
+abbrev pub takes : List ℕ → PublicCall → ℕ
+takes b check = 0
+takes b classify = workUsed b
+takes b (change gone new) = workUsed b
+takes b (lookup c d) = 0
+takes b (listing d) = 0
+takes b (row c) = 0
+takes b write = 0
+
+-- No number is laid down to zero it today.
+abbrev pub share : List ℕ → PublicCall → Share
+share b c = record { taken = takes b c; zeroes = atNone }
+
 -- ---- a call that returned
 
--- With catalogue b a call was lent u, met its contract, answered an outcome, and left v. The third buffer is the list of a change or of a listing, or
--- write's output. A buffer that a call is not lent, or is lent for reading only, is the same in v.
-pub data Returns (b : List ℕ) (u : Lent) : PublicCall → Outcome → Lent → Type 0 where
+-- With catalogue b a call was lent u, met its contract, answered an outcome, and left v. A buffer that a call is not lent, or is lent for reading only, is
+-- the same in v.
+pub data Returns (b : List ℕ) (u : Buffers) : PublicCall → Outcome → Buffers → Type 0 where
   measures : {a : Sizes} → Measures b a → Returns b u check (checkOutcome a) u
   classifies : {a : Classified} {store work : List ℕ} → Classifies b (u .store) (u .work) a store work
-      → Returns b u classify (classifyOutcome a) (lend store work (u .list))
-  changes : {gone new : List ℕ} {a : Changed} {v : Lent} → Edits b gone new u a v → Returns b u (change gone new) (changeOutcome a) v
+      → Returns b u classify (classifyOutcome a) (buffers store work (u .list) (u .output))
+  changes : {gone new : List ℕ} {a : Changed} {v : Lent} → Edits b gone new (lentOf u) a v
+      → Returns b u (change gone new) (changeOutcome a) (buffers (v .store) (v .work) (v .list) (u .output))
   looks-up : {c d : ℕ} {a : Looked} → a ≡ lookedUp b c d (u .store) → Returns b u (lookup c d) (lookupOutcome a) u
   lists : {d : ℕ} {a : Listed} {list : List ℕ} → Lists b d (u .store) (u .list) a list
-      → Returns b u (listing d) (listOutcome a) (lend (u .store) (u .work) list)
+      → Returns b u (listing d) (listOutcome a) (buffers (u .store) (u .work) list (u .output))
   hands-out : {c : ℕ} {a : Handed} (store part : RefT (List ℕ)) → now store ≡ u .store → HandsOut b c store part → a ≡ rowAnswer b c (now store)
       → Returns b u (row c) (rowOutcome a) u
-  writes : {a : Wrote} {output : List ℕ} → Writes b (u .store) (u .list) a output
-      → Returns b u write (writeOutcome a) (lend (u .store) (u .work) output)
+  writes : {a : Wrote} {output : List ℕ} → Writes b (u .store) (u .output) a output
+      → Returns b u write (writeOutcome a) (buffers (u .store) (u .work) (u .list) output)

@@ -15,7 +15,7 @@ use Rattle.layout.specs.Parts.{used, workUsed, inForce, held, spareClear}
 use Rattle.store.specs.Written.{rising}
 use Rattle.store.specs.Fresh.{Marked}
 use Rattle.store.specs.Checks.{axiomsInLimit}
-use Rattle.store.specs.Work.{zeroed, workAfter}
+use Rattle.store.specs.Work.{zeroed, workAfter, atNone}
 use Rattle.lists.specs.Lists.{withFront}
 use Rattle.edits.specs.declared.Changed.{Changed}
 use Rattle.edits.specs.Answers.{outcomeOf, removedOf, returnedOf, gainedOf, touchedOf}
@@ -61,7 +61,7 @@ asked b gone new u = changeChecks b gone new (lengths u) (spareClear b (u .store
 pub record Refuses (b : List ℕ) (number at : ℕ) (u : Lent) (answer : Changed) (v : Lent) : Type 0 where
   pub answers : outcomeOf answer ≡ refused number at
   pub store-kept : v .store ≡ u .store
-  pub work-kept : v .work ≡ workAfter (workUsed b) number (u .work)
+  pub work-kept : v .work ≡ workAfter atNone (workUsed b) number (u .work)
   pub list-kept : v .list ≡ u .list
 
 -- Accepted: the store marks the axioms after the change and the new set, for H the pairs and links that it held, right or not; the touched concepts stand
