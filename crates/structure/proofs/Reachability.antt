@@ -12,7 +12,7 @@ use Rattle.catalogue.specs.Header.{inclusions}
 use Rattle.catalogue.specs.Records.{within, around}
 use Rattle.catalogue.specs.WellFormed.{WellFormed}
 use Rattle.structure.specs.Reach.{Reach, here, up}
-use Rattle.structure.specs.Square.{mark, Included, MarksExactly, Through, Closed}
+use Rattle.structure.specs.Square.{Square, mark, Included, MarksExactly, Through, Closed}
 
 pub transitive : {b : List ℕ} {r t s : ℕ} → Reach b r t → Reach b t s → Reach b r s
 transitive here q = q
@@ -117,7 +117,7 @@ included-more b k r s = (to, from)
     from (inr (j, l, e, f)) = elim (ℕ-discrete j k) [ yes h ↦ inr (last j h e f) | no n ↦ inl (inr (j, omega (arith, l), e, f)) ]
 
 -- A Warshall step: one role more between.
-pub through-exact : (b : List ℕ) (k : ℕ) (square next : List (List Bool)) → k < 16 → MarksExactly (Via b k) square → Through k square next → MarksExactly (Via b (k + 1)) next
+pub through-exact : (b : List ℕ) (k : ℕ) (square next : Square) → k < 16 → MarksExactly (Via b k) square → Through k square next → MarksExactly (Via b (k + 1)) next
 through-exact b k square next l m t = record { exact = λ r s h h′. (to r s h h′, from r s h h′) }
   where
     to : (r s : ℕ) → r < 16 → s < 16 → mark next r s ≡ true → Via b (k + 1) r s
@@ -130,5 +130,5 @@ through-exact b k square next l m t = record { exact = λ r s h h′. (to r s h 
         (⊎-map (m .exact r s h h′ .1) (λ p. (m .exact r k h l .1 (p .0), m .exact k s l h′ .1 (p .1))) (via-through b k r s .0 v))
 
 -- With all sixteen roles between, the square is closed.
-pub via-closed : {b : List ℕ} {square : List (List Bool)} → WellFormed b → MarksExactly (Via b 16) square → Closed b square
+pub via-closed : {b : List ℕ} {square : Square} → WellFormed b → MarksExactly (Via b 16) square → Closed b square
 via-closed w m = record { exact = λ r s h h′. (λ e. via-reach (m .exact r s h h′ .0 e), λ p. m .exact r s h h′ .1 (reach-via w p)) }

@@ -9,9 +9,9 @@ use mathlib.Core.Bool.{Bool, true, false, false≢true}
 use mathlib.Core.List.{List, []}
 use lib.ListN.{length, getD, set, replicate, length-set, getD-replicate}
 use lib.Seq.{getD-set-same, getD-set-other}
-use Rattle.structure.specs.Square.{mark, Sized, MarksExactly}
+use Rattle.structure.specs.Square.{Square, mark, Sized, MarksExactly}
 
-abbrev pub blank : List (List Bool)
+abbrev pub blank : Square
 blank = replicate 16 (replicate 16 false)
 
 pub blank-sized : Sized blank
@@ -24,10 +24,10 @@ blank-exact P f = record { exact = λ r s h k. (λ m. absurd (false≢true (sym 
     clear r s h k = ap (λ (l : List Bool). getD l s false) (getD-replicate 16 r (replicate 16 false) [] h) ∙ getD-replicate 16 s false false k
 
 -- The square with roles r and s marked.
-abbrev pub put : List (List Bool) → ℕ → ℕ → List (List Bool)
+abbrev pub put : Square → ℕ → ℕ → Square
 put q r s = set q r (set (getD q r []) s true)
 
-module _ (q : List (List Bool)) (r s : ℕ) (z : Sized q) (h : r < 16) where
+module _ (q : Square) (r s : ℕ) (z : Sized q) (h : r < 16) where
   row-put : getD (put q r s) r [] ≡ set (getD q r []) s true
   row-put = getD-set-same q r (set (getD q r []) s true) [] (rw (z .rows) h)
 
@@ -60,7 +60,7 @@ module _ (q : List (List Bool)) (r s : ℕ) (z : Sized q) (h : r < 16) where
       ]
 
 -- Relations that agree are marked alike.
-pub exactly-same : (P Q : ℕ → ℕ → Type 0) (q : List (List Bool)) → ((r s : ℕ) → r < 16 → s < 16 → P r s ↔ Q r s) → MarksExactly P q → MarksExactly Q q
+pub exactly-same : (P Q : ℕ → ℕ → Type 0) (q : Square) → ((r s : ℕ) → r < 16 → s < 16 → P r s ↔ Q r s) → MarksExactly P q → MarksExactly Q q
 exactly-same P Q q e m = record { exact = λ r s h k. (λ o. e r s h k .0 (m .exact r s h k .0 o), λ p. m .exact r s h k .1 (e r s h k .1 p)) }
 
 -- What holds of the elements below i, and of the one stored at i, holds of those below i + 1.
