@@ -61,7 +61,7 @@ impl Built {
     pub fn here() -> Built {
         let root = Path::new(env!("CARGO_MANIFEST_DIR")).join("..");
         Built {
-            command: root.join("command/target/release/girvotal"),
+            command: root.join("target/release/girvotal"),
             example: root.join("target/example"),
         }
     }

@@ -5,7 +5,7 @@ use core::slice::ChunksExact;
 
 use crate::catalogue::word;
 use crate::exported::{self, ENTRIES};
-use crate::{Axiom, Catalogue, Concept, Refusal, AXIOMS_MOST};
+use crate::{AXIOMS_MOST, Axiom, Catalogue, Concept, Refusal};
 
 /// Makes a call with an answer of four entries.
 pub(crate) fn answered(

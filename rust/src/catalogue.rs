@@ -3,7 +3,7 @@
 use core::slice::ChunksExact;
 
 use crate::calls::answered;
-use crate::{exported, Refusal};
+use crate::{Refusal, exported};
 
 /// A concept, by the number of its record.
 #[derive(Clone, Copy, Debug, PartialEq, Eq, PartialOrd, Ord, Hash)]

@@ -51,8 +51,8 @@ mod refusal;
 mod site;
 
 pub use builder::Builder;
-pub use calls::{change, classify, list, lookup, row, write};
 pub use calls::{Changed, Concepts, Counts, Row};
+pub use calls::{change, classify, list, lookup, row, write};
 pub use catalogue::{Axiom, Catalogue, Composition, Concept, Inclusion, Record, Role, Sizes};
 pub use refusal::{Question, Refusal};
 pub use site::Site;

@@ -3,8 +3,8 @@
 mod support;
 
 use girvotal::{
-    Axiom, Builder, Catalogue, Concept, Question, Record, Refusal, Role, Site, CATALOGUE_MOST,
-    LIST_MOST, STORE_MOST, WORK_MOST,
+    Axiom, Builder, CATALOGUE_MOST, Catalogue, Concept, LIST_MOST, Question, Record, Refusal, Role,
+    STORE_MOST, Site, WORK_MOST,
 };
 use support::{file, files};
 

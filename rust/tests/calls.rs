@@ -5,7 +5,7 @@ mod lent;
 mod support;
 
 use girvotal::{Axiom, Builder, Concept, Record, Role, Sizes};
-use lent::{axiom, checked, kinds, Call, Lent, FILL};
+use lent::{Call, FILL, Lent, axiom, checked, kinds};
 use support::{file, files};
 
 #[test]

@@ -6,7 +6,7 @@ mod support;
 
 use girvotal::exported::{self, ENTRIES, SHORT_ANSWER};
 use girvotal::{Builder, Question, Refusal};
-use lent::{axiom, checked, kinds, Call, Lent};
+use lent::{Call, Lent, axiom, checked, kinds};
 use std::collections::BTreeSet;
 use support::{file, files};
 

@@ -158,9 +158,10 @@ fn starting_over() {
     };
     assert_eq!(copy.reclassify(), Ok(counts));
     assert!(copy.store() == fresh);
-    assert!(site
-        .change(&[], &[])
-        .is_ok_and(|changed| changed.touched.is_empty()));
+    assert!(
+        site.change(&[], &[])
+            .is_ok_and(|changed| changed.touched.is_empty())
+    );
 }
 
 /// Sites may be read by many threads at once.

@@ -1,7 +1,7 @@
 //! The crate, the header `include/girvotal.h` and `docs/REFUSALS.md` say the same: constants,
 //! sentences, functions.
 
-use girvotal::{exported, Question};
+use girvotal::{Question, exported};
 use std::collections::BTreeMap;
 use std::path::Path;
 
