@@ -5,34 +5,30 @@ mod archive;
 
 use std::path::Path;
 
-/// The functions that the archive must have.
-const FUNCTIONS: [&str; 7] = [
-    "girvotal_check",
-    "girvotal_classify",
-    "girvotal_change",
-    "girvotal_lookup",
-    "girvotal_list",
-    "girvotal_row",
-    "girvotal_write",
-];
+/// The functions that the archive must have, of a table of calls.
+macro_rules! calls {
+    ($($(#[$doc:meta])* $name:ident($($parameters:tt)*);)*) => {
+        const FUNCTIONS: &[&str] = &[$(concat!("girvotal_", stringify!($name))),*];
+    };
+}
+
+include!("src/table.rs");
 
 fn main() {
     println!("cargo::rerun-if-env-changed=GIRVOTAL_LIB_DIR");
     let root = std::env::var_os("CARGO_MANIFEST_DIR").expect("cargo sets it");
     let root = Path::new(&root);
-    match std::env::var_os("GIRVOTAL_LIB_DIR") {
-        Some(folder) => {
-            let advice = "GIRVOTAL_LIB_DIR names its folder";
-            archive::link(&root.join(folder), "girvotal", &FUNCTIONS, advice);
-        }
-        None => {
-            let advice = "run `rt staticlib exports` in the repository's root";
-            archive::link(
-                &root.join("../target/staticlib"),
-                "exports",
-                &FUNCTIONS,
-                advice,
-            );
-        }
-    }
+    let (folder, name, advice) = match std::env::var_os("GIRVOTAL_LIB_DIR") {
+        Some(folder) => (
+            root.join(folder),
+            "girvotal",
+            "GIRVOTAL_LIB_DIR names its folder",
+        ),
+        None => (
+            root.join("../target/staticlib"),
+            "exports",
+            "run `rt staticlib exports` in the repository's root",
+        ),
+    };
+    archive::link(&folder, name, FUNCTIONS, advice);
 }

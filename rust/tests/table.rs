@@ -77,25 +77,28 @@ fn meanings<'t>(header: &[&'t str]) -> BTreeMap<&'t str, String> {
     meanings
 }
 
-/// The exported functions that are declared, each with the types of its parameters.
-fn functions<'t>(
-    tokens: &[&'t str],
-    kind: impl Fn(&[&str]) -> &'static str,
-) -> BTreeMap<&'t str, Vec<&'static str>> {
-    let mut functions = BTreeMap::new();
-    for (at, three) in tokens.windows(3).enumerate() {
-        let ["fn" | "size_t", name, "("] = *three else {
-            continue;
-        };
-        let parameters = between(&tokens[at..], &["("], ")");
-        let next = tokens[at + 3 + parameters.len() + 1];
-        if name.starts_with("girvotal_") && next != "{" {
-            let each = parameters.split(|token| *token == ",");
-            let each = each.filter(|parameter| !parameter.is_empty());
-            functions.insert(name, each.map(&kind).collect());
-        }
-    }
-    functions
+/// The functions of a table of calls, each with what stands of its parameters.
+macro_rules! calls {
+    ($($(#[$doc:meta])* $name:ident($($parameter:ident: $kind:ty),*);)*) => {
+        const CALLS: &[(&str, &[(&str, &str)])] = &[$((
+            concat!("girvotal_", stringify!($name)),
+            &[$((stringify!($parameter), stringify!($kind))),*],
+        )),*];
+    };
+}
+
+include!("../src/table.rs");
+
+/// A parameter of the table as the header declares it.
+fn declared((name, kind): (&str, &str)) -> String {
+    let (pointer, length) = match kind {
+        "usize" => return format!("size_t {name}"),
+        "&[u8]" => (format!("const uint8_t * {name}"), format!("{name}_length")),
+        "&mut [u8]" => (format!("uint8_t * {name}"), format!("{name}_length")),
+        "&mut [u64]" => (format!("uint64_t * {name}"), format!("{name}_length")),
+        other => panic!("{other}"),
+    };
+    format!("{pointer} , size_t {length}")
 }
 
 /// The constant in C of a question.
@@ -150,26 +153,23 @@ fn questions_of_the_header() {
     );
 }
 
-/// The exported functions have the header's parameters.
+/// The table has the header's functions, in its order, with its parameters.
 #[test]
 fn functions_of_the_header() {
-    let (header, source) = (text("include/girvotal.h"), text("rust/src/exported.rs"));
-    let declared = functions(&tokens(&header), |parameter| match parameter {
-        ["const", "uint8_t", "*", _] => "*const u8",
-        ["uint8_t", "*", _] => "*mut u8",
-        ["uint64_t", "*", _] => "*mut u64",
-        ["size_t", _] => "usize",
-        other => panic!("{other:?}"),
+    let header = text("include/girvotal.h");
+    let header = tokens(&header);
+    let prototypes = header.split(|token| [";", "{", "}"].contains(token));
+    let prototypes: Vec<String> = prototypes
+        .filter(|prototype| prototype.first() == Some(&"size_t"))
+        .filter(|prototype| prototype.last() == Some(&")"))
+        .map(|prototype| prototype.join(" "))
+        .collect();
+    let expected = CALLS.iter().map(|(name, parameters)| {
+        let answer = ("answer", "&mut [u64]");
+        let all = parameters.iter().copied().chain([answer]).map(declared);
+        format!("size_t {name} ( {} )", all.collect::<Vec<_>>().join(" , "))
     });
-    let used = functions(&tokens(&source), |parameter| match parameter {
-        [_, ":", "*", "const", "u8"] => "*const u8",
-        [_, ":", "*", "mut", "u8"] => "*mut u8",
-        [_, ":", "*", "mut", "u64"] => "*mut u64",
-        [_, ":", "usize"] => "usize",
-        other => panic!("{other:?}"),
-    });
-    assert_eq!(used.len(), 7);
-    assert_eq!(declared, used);
+    assert_eq!(prototypes, expected.collect::<Vec<String>>());
 }
 
 /// The list of questions is the table, in its order and with no other entry.
