@@ -3,7 +3,7 @@
 use alloc::vec;
 use alloc::vec::Vec;
 
-use crate::calls::{self, Changed, Concepts, Counts, Row};
+use crate::calls::{self, Changed, Counts, Row};
 use crate::{Axiom, Catalogue, Concept, Refusal, Sizes};
 
 /// A catalogue, its store and all that the calls are lent: the same calls, without lengths.
@@ -84,10 +84,11 @@ impl Site {
         calls::lookup(&self.catalogue(), first, second, &self.store)
     }
 
-    /// The kinds under a concept: [`list`](crate::list()).
-    pub fn list(&mut self, second: Concept) -> Result<Concepts<'_>, Refusal> {
-        let catalogue = Catalogue::checked(&self.catalogue, self.sizes);
-        calls::list(&catalogue, second, &self.store, &mut self.list)
+    /// The kinds under a concept, rising: [`list`](crate::list()).
+    pub fn list(&self, second: Concept) -> Result<Vec<Concept>, Refusal> {
+        let mut list = vec![0; self.sizes.list];
+        let listed = calls::list(&self.catalogue(), second, &self.store, &mut list)?;
+        Ok(listed.iter().collect())
     }
 
     /// The row of the concepts above one: [`row`](crate::row()).

@@ -47,9 +47,9 @@ pub fn lookup(given: &Given, streams: &mut Streams<'_>) -> Result<Report, Failur
 
 /// `list STATE B`
 pub fn list(given: &Given, streams: &mut Streams<'_>) -> Result<Report, Failure> {
-    let mut state = read_state(given.operand(0), streams)?;
+    let state = read_state(given.operand(0), streams)?;
     let second = resolve(given.text(1)?, &state)?;
-    let kinds: Vec<Concept> = state.site.list(second)?.iter().collect();
+    let kinds = state.site.list(second)?;
     Ok(kinds_told(&state, &kinds))
 }
 
