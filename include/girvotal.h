@@ -25,13 +25,22 @@
  * Bytes beyond these are kept. GIRVOTAL_.._MOST is enough for every catalogue,
  * GIRVOTAL_CATALOGUE_MOST for an output too.
  *
+ * Stores: a store belongs to the catalogue that it was classified from. It holds
+ * numbers alone: lent with a catalogue that has other concepts, roles, inclusions
+ * or compositions, it is no store of that one, and where its length and its spare
+ * bits happen to fit, no call can tell and the answers mean nothing. Keep the two
+ * together, as a state file does (girvotal_state.h). Only the axioms may differ:
+ * those in force are the store's.
+ *
  * Threads: nothing is kept between calls, nothing is allocated, and there are no
  * global variables. Any number of calls may run at once, as long as no buffer that
  * one of them writes is used by another.
  *
  * Stack, measured on the deepest catalogues and rounded up: have 384 KiB for
  * girvotal_classify and girvotal_change, 48 KiB for girvotal_lookup, girvotal_list
- * and girvotal_row, 4 KiB for girvotal_check and girvotal_write.
+ * and girvotal_row, 4 KiB for girvotal_check and girvotal_write. Too little stack
+ * is a crash, not a refusal: no call can find out how much there is. A thread's
+ * stack may be smaller than the main one's, so set its size.
  */
 #ifndef GIRVOTAL_H
 #define GIRVOTAL_H
