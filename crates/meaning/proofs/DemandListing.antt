@@ -21,6 +21,7 @@ use Rattle.booleans.proofs.Booleans.{by-bool, not-both, both}
 use Rattle.rules.specs.Axioms.{Axioms, InRange}
 use Rattle.rules.specs.Occurrence.{Occurs, occurs}
 use Rattle.rules.specs.Rules.{partition}
+use Rattle.rules.proofs.Allowed.{derived-marked}
 use Rattle.rules.proofs.Occurrence.{occurs-exact, occurs-below}
 use Rattle.rules.proofs.Says.{says-closure}
 use Rattle.store.specs.Says.{says}
@@ -35,7 +36,6 @@ use Rattle.meaning.specs.Meaning.{Among, KindUnder, ListingMeans}
 use Rattle.lookups.specs.declared.kinds.Listed.{Listed}
 use Rattle.lookups.specs.declared.kinds.Listed.the-variants.{Count, Refused}
 use Rattle.store.proofs.Checks.{every-one}
-use Rattle.meaning.proofs.Partitions.{partition-marked}
 use Rattle.meaning.proofs.DemandLookup.{open-passes, content-asks, meant}
 
 -- ---- two answers are not one
@@ -64,7 +64,7 @@ module _ (b : List ℕ) (F : Axioms) (store : List ℕ) (catalogue : checked b �
       only : (eqb (kind b c) 0 && has) ≡ true → KindUnder b F d c
       only e =
           let (k, h) = both (eqb (kind b c) 0) has .0 e in
-          let o : Occurs b F c = occurs-exact b F wf range c .0 (partition-marked b F (occurs b F) (says-closure b F c d .0 (says-fresh b F store fresh c d .0 h))) in
+          let o : Occurs b F c = occurs-exact b F wf range c .0 (derived-marked b F (occurs b F) (says-closure b F c d .0 (says-fresh b F store fresh c d .0 h))) in
           (eqb-true (kind b c) 0 k, o, meant b F store catalogue range few fresh c d o p .0 .0 h)
 
       all : KindUnder b F d c → (eqb (kind b c) 0 && has) ≡ true

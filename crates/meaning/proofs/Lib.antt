@@ -1,4 +1,3 @@
-pub mod Partitions
 pub mod DemandLookup
 pub mod DemandListing
 pub mod DemandEntries
