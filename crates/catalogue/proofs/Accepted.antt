@@ -4,19 +4,21 @@ use native.Mathlib.Omega.{arith}
 use mathlib.Core.Path.{_≡_, refl, sym, _∙_}
 use mathlib.Core.Logic.{_⊎_, inl, inr}
 use mathlib.Core.Bool.{Bool, true, false, _&&_, _||_, and-eq-true-iff}
-use mathlib.Core.List.{List}
+use mathlib.Core.List.{List, List·Memᴰ·head, List·Memᴰ·tail}
 use lib.Dec.{ltb, eqb}
 use lib.ListN.{length}
 use borrow.Author.Tests.{ltb-true, leb-true, eqb-true, lt-ltb, le-leb, eq-eqb}
 use Rattle.catalogue.specs.Header.{total, concepts, roles, inclusions, compositions, axioms, conceptsAt, inclusionsAt, axiomsAt}
 use Rattle.catalogue.specs.Records.{kind, first, second, within, around, role1, role2, result, left, right}
 use Rattle.catalogue.specs.Outcome.{accepted}
-use Rattle.catalogue.specs.Checks.{headerFits, totalRight, countsInLimits, offsetsRight, kindRight, fieldsRight, inclusionRight, compositionRight, sidesRight, above, risingRight, fieldsAsKind, checked}
+use Rattle.catalogue.specs.Questions.{inConcepts, inInclusions, inCompositions, inAxioms, once, each}
+use Rattle.catalogue.specs.Checks.{headerFits, totalRight, countsInLimits, offsetsRight, kindRight, fieldsRight, inclusionRight, compositionRight, sidesRight, above, risingRight, fieldsAsKind, headerQuestions, conceptQuestions, roleQuestions, axiomQuestions, recordQuestions, catalogueQuestions, checked}
 use Rattle.catalogue.specs.Sections.{Sections}
 use Rattle.catalogue.specs.WellFormed.{WellFormed}
 use Rattle.catalogue.proofs.Bounds.{header-within}
 use Rattle.catalogue.proofs.Tests.{limits, sections, fields-simple, fields-conjunction, fields-existential, rising-first, rising-after}
-use Rattle.catalogue.proofs.Passed.{Passed, accepted-passed, passed-accepted}
+use Rattle.catalogue.proofs.Asked.{Yes, Each, none, also}
+use Rattle.catalogue.proofs.Passed.{accepted-passed, passed-accepted}
 
 -- Both of two tests.
 both : (s t : Bool) → s && t ≡ true → (s ≡ true) × (t ≡ true)
@@ -63,46 +65,90 @@ up-to-three (suc zero) l = inl (omega arith)
 up-to-three (suc (suc zero)) l = inr (inl refl)
 up-to-three (suc (suc (suc k))) l = inr (inr (omega arith))
 
--- What each answer of a catalogue's checks says.
-module _ (b : List ℕ) (p : Passed b) where
+-- The list of questions written out, and the places in it.
+lists : Unit {0}
+unfolding headerQuestions conceptQuestions roleQuestions axiomQuestions recordQuestions catalogueQuestions
+lists = tt
+
+ruleset places = (List·Memᴰ·head, List·Memᴰ·tail)
+
+-- What a yes to each of a catalogue's questions says.
+module _ (b : List ℕ) (p : Each (Yes b) catalogueQuestions) where
+  -- Each question, wherever it stands in the list.
+  asked-total-right : totalRight b ≡ true
+  unfolding lists
+  asked-total-right = p (once 2 totalRight) (search places depth 12)
+
+  asked-counts-in-limits : countsInLimits b ≡ true
+  unfolding lists
+  asked-counts-in-limits = p (once 3 countsInLimits) (search places depth 12)
+
+  asked-offsets-right : offsetsRight b ≡ true
+  unfolding lists
+  asked-offsets-right = p (once 4 offsetsRight) (search places depth 12)
+
+  asked-kind-right : (i : ℕ) → i < concepts b → kindRight b i ≡ true
+  unfolding lists
+  asked-kind-right = p (each 5 inConcepts kindRight) (search places depth 12)
+
+  asked-fields-right : (i : ℕ) → i < concepts b → fieldsRight b i ≡ true
+  unfolding lists
+  asked-fields-right = p (each 6 inConcepts fieldsRight) (search places depth 12)
+
+  asked-inclusion-right : (k : ℕ) → k < inclusions b → inclusionRight b k ≡ true
+  unfolding lists
+  asked-inclusion-right = p (each 7 inInclusions inclusionRight) (search places depth 12)
+
+  asked-composition-right : (k : ℕ) → k < compositions b → compositionRight b k ≡ true
+  unfolding lists
+  asked-composition-right = p (each 7 inCompositions compositionRight) (search places depth 12)
+
+  asked-sides-right : (k : ℕ) → k < axioms b → sidesRight b k ≡ true
+  unfolding lists
+  asked-sides-right = p (each 8 inAxioms sidesRight) (search places depth 12)
+
+  asked-rising-right : (k : ℕ) → k < axioms b → risingRight b k ≡ true
+  unfolding lists
+  asked-rising-right = p (each 9 inAxioms risingRight) (search places depth 12)
+
   kind-most : (i : ℕ) → i < concepts b → kind b i ≤ 3
   unfolding kindRight
-  kind-most i l = leb-true _ _ (p .kind-right i l)
+  kind-most i l = leb-true _ _ (asked-kind-right i l)
 
   simple : (i : ℕ) → i < concepts b → kind b i ≤ 1 → (first b i ≡ 0) × (second b i ≡ 0)
   unfolding fieldsRight
-  simple i l k = zeros _ _ (sym (fields-simple b i (kind b i) k) ∙ p .fields-right i l)
+  simple i l k = zeros _ _ (sym (fields-simple b i (kind b i) k) ∙ asked-fields-right i l)
 
   conjunction : (i : ℕ) → i < concepts b → kind b i ≡ 2 → (first b i < i) × (second b i < i)
   unfolding fieldsRight
-  conjunction i l k = below _ _ _ _ (sym (fields-conjunction b i (kind b i) k) ∙ p .fields-right i l)
+  conjunction i l k = below _ _ _ _ (sym (fields-conjunction b i (kind b i) k) ∙ asked-fields-right i l)
 
   restriction : (i : ℕ) → i < concepts b → kind b i ≡ 3 → (first b i < roles b) × (second b i < i)
   unfolding fieldsRight
-  restriction i l k = below _ _ _ _ (sym (fields-existential b i (kind b i) k) ∙ p .fields-right i l)
+  restriction i l k = below _ _ _ _ (sym (fields-existential b i (kind b i) k) ∙ asked-fields-right i l)
 
   inclusion-roles : (k : ℕ) → k < inclusions b → (within b k < roles b) × (around b k < roles b)
   unfolding inclusionRight
-  inclusion-roles k l = below _ _ _ _ (p .inclusion-right k l)
+  inclusion-roles k l = below _ _ _ _ (asked-inclusion-right k l)
 
   composition-roles : (k : ℕ) → k < compositions b → (role1 b k < roles b) × (role2 b k < roles b) × (result b k < roles b)
   unfolding compositionRight
   composition-roles k l =
-      let r = both _ _ (p .composition-right k l) in
+      let r = both _ _ (asked-composition-right k l) in
       let s = below _ _ _ _ (r .1) in
       (ltb-true _ _ (r .0), s .0, s .1)
 
   axiom-sides : (k : ℕ) → k < axioms b → (left b k < concepts b) × (right b k < concepts b)
   unfolding sidesRight
-  axiom-sides k l = below _ _ _ _ (p .sides-right k l)
+  axiom-sides k l = below _ _ _ _ (asked-sides-right k l)
 
   axioms-rise : (k : ℕ) → suc k < axioms b → (left b k < left b (suc k)) ⊎ ((left b k ≡ left b (suc k)) × (right b k < right b (suc k)))
-  axioms-rise k l = above-rising _ _ _ _ (sym (rising-after b k (suc k) refl) ∙ p .rising-right (suc k) l)
+  axioms-rise k l = above-rising _ _ _ _ (sym (rising-after b k (suc k) refl) ∙ asked-rising-right (suc k) l)
 
   passed-well-formed : WellFormed b
   passed-well-formed =
-      let s : Sections b = sections b (p .total-right) (p .offsets-right) in
-      let counts = limits b (p .counts-in-limits) in
+      let s : Sections b = sections b asked-total-right asked-offsets-right in
+      let counts = limits b asked-counts-in-limits in
       record {
         some-concept = counts .0;
         concepts-limit = counts .1;
@@ -161,29 +207,28 @@ module _ (b : List ℕ) (f : WellFormed b) (t : total b ≡ length b) where
   rising-pass zero l = rising-first b 0 refl
   rising-pass (suc k) l = rising-after b k (suc k) refl ∙ rising-above _ _ _ _ (f .rising k l)
 
-  well-formed-passed : Passed b
-  unfolding headerFits totalRight kindRight inclusionRight sidesRight
+  well-formed-passed : Each (Yes b) catalogueQuestions
+  unfolding lists headerFits totalRight kindRight inclusionRight sidesRight
   well-formed-passed =
-      record {
-        header-fits = le-leb 20 (length b) (header-within f);
-        total-right = eq-eqb _ _ t;
-        counts-in-limits = counts-pass;
-        offsets-right = offsets-pass;
-        kind-right = λ i l. le-leb _ _ (f .kinds i l);
-        fields-right = fields-pass;
-        inclusion-right = λ k l. are-below (f .inclusion k l);
-        composition-right = composition-pass;
-        sides-right = λ k l. are-below (f .sides k l);
-        rising-right = rising-pass;
-      }
+      also (Yes b) (le-leb 20 (length b) (header-within f))
+      (also (Yes b) (eq-eqb _ _ t)
+      (also (Yes b) counts-pass
+      (also (Yes b) offsets-pass
+      (also (Yes b) (λ i l. le-leb _ _ (f .kinds i l))
+      (also (Yes b) fields-pass
+      (also (Yes b) (λ k l. are-below (f .inclusion k l))
+      (also (Yes b) composition-pass
+      (also (Yes b) (λ k l. are-below (f .sides k l))
+      (also (Yes b) rising-pass
+      (none (Yes b)))))))))))
 
 pub accepted-well-formed : {b : List ℕ} → checked b ≡ accepted → WellFormed b
-accepted-well-formed {b} e = passed-well-formed b (accepted-passed e)
+accepted-well-formed {b} e = passed-well-formed b (accepted-passed b e)
 
 pub well-formed-accepted : {b : List ℕ} → WellFormed b → total b ≡ length b → checked b ≡ accepted
-well-formed-accepted {b} f t = passed-accepted (well-formed-passed b f t)
+well-formed-accepted {b} f t = passed-accepted b (well-formed-passed b f t)
 
 -- The total field of an accepted catalogue is its length.
 pub accepted-total : (b : List ℕ) → checked b ≡ accepted → total b ≡ length b
 unfolding totalRight
-accepted-total b e = let p : Passed b = accepted-passed e in eqb-true _ _ (p .total-right)
+accepted-total b e = eqb-true _ _ (asked-total-right b (accepted-passed b e))

@@ -7,10 +7,21 @@ use Rattle.catalogue.specs.Words.{word, bytesOf}
 use Rattle.catalogue.specs.Header.{total, concepts, roles, inclusions, compositions, axioms, conceptsAt, inclusionsAt, compositionsAt, axiomsAt}
 use Rattle.catalogue.specs.Records.{kind, first, second, within, around, role1, role2, result, left, right}
 use Rattle.catalogue.specs.Outcome.{Outcome, accepted, refused, ask, askEach, firstFault, firstFaultFrom}
-use Rattle.catalogue.specs.Checks.{headerFits, totalRight, countsInLimits, offsetsRight, kindRight, fieldsAsKind, fieldsRight, inclusionRight, compositionRight, sidesRight, above, risingRight, recordChecks, catalogueChecks, checked}
+use Rattle.catalogue.specs.Questions.{numberOf, askAll}
+use Rattle.catalogue.specs.Checks.{headerFits, totalRight, countsInLimits, offsetsRight, kindRight, fieldsAsKind, fieldsRight, inclusionRight, compositionRight, sidesRight, above, risingRight, headerQuestions, conceptQuestions, roleQuestions, axiomQuestions, recordQuestions, catalogueQuestions, catalogueNumbers, catalogueChecks, checked}
 use Rattle.catalogue.specs.WellFormed.{WellFormed}
 use Rattle.catalogue.specs.Examples.{w1, allSections, headerAlone}
 use Rattle.catalogue.proofs.Accepted.{accepted-well-formed}
+
+-- What the checks compute by: a proof by computation that unfolds this unfolds them all.
+unfoldable pub checks-compute : Unit {0}
+unfolding word total concepts roles inclusions compositions axioms conceptsAt inclusionsAt compositionsAt axiomsAt kind first second within around role1 role2 result left right ask askEach firstFault firstFaultFrom askAll headerFits totalRight countsInLimits offsetsRight kindRight fieldsAsKind fieldsRight inclusionRight compositionRight sidesRight above risingRight headerQuestions conceptQuestions roleQuestions axiomQuestions recordQuestions catalogueQuestions catalogueChecks checked
+checks-compute = tt
+
+-- The numbers of the questions, in their order.
+pub catalogue-numbers : catalogueNumbers ≡ 1 ∷ 2 ∷ 3 ∷ 4 ∷ 5 ∷ 6 ∷ 7 ∷ 7 ∷ 8 ∷ 9 ∷ []
+unfolding checks-compute numberOf catalogueNumbers
+catalogue-numbers = refl
 
 -- W1: 80 bytes, sections at 20, 62, 62 and 68, accepted, and so well-formed.
 pub w1-offsets : (length w1 ≡ 80) × (conceptsAt w1 ≡ 20) × (inclusionsAt w1 ≡ 62) × (compositionsAt w1 ≡ 62) × (axiomsAt w1 ≡ 68)
@@ -18,7 +29,7 @@ unfolding w1 word conceptsAt inclusionsAt compositionsAt axiomsAt
 w1-offsets = (refl, refl, refl, refl, refl)
 
 pub w1-accepted : checked w1 ≡ accepted
-unfolding word total concepts roles inclusions compositions axioms conceptsAt inclusionsAt compositionsAt axiomsAt kind first second within around role1 role2 result left right ask askEach firstFault firstFaultFrom headerFits totalRight countsInLimits offsetsRight kindRight fieldsAsKind fieldsRight inclusionRight compositionRight sidesRight above risingRight recordChecks catalogueChecks checked w1
+unfolding checks-compute w1
 w1-accepted = refl
 
 pub w1-well-formed : WellFormed w1
@@ -26,16 +37,16 @@ w1-well-formed = accepted-well-formed w1-accepted
 
 -- 19 bytes: 1.
 pub nineteen-bytes : (b : List ℕ) → length b ≡ 19 → checked b ≡ refused 1 0
-unfolding ask headerFits catalogueChecks checked
+unfolding checks-compute
 nineteen-bytes b e = rw e refl
 
 -- n 512 passes question 3 (and this header is refused by 4); 513: 3.
 pub most-concepts : checked (headerAlone 512 16 64 64 4096) ≡ refused 4 0
-unfolding word total concepts roles inclusions compositions axioms conceptsAt inclusionsAt compositionsAt axiomsAt ask headerFits totalRight countsInLimits offsetsRight catalogueChecks checked headerAlone bytesOf
+unfolding checks-compute headerAlone bytesOf
 most-concepts = refl
 
 pub too-many-concepts : checked (headerAlone 513 16 64 64 4096) ≡ refused 3 0
-unfolding word total concepts roles inclusions compositions axioms conceptsAt inclusionsAt compositionsAt axiomsAt ask headerFits totalRight countsInLimits offsetsRight catalogueChecks checked headerAlone bytesOf
+unfolding checks-compute headerAlone bytesOf
 too-many-concepts = refl
 
 -- A refusal by each question, with the record at fault, the first where several are.
@@ -83,9 +94,9 @@ refusals =
     (set (set allSections 86 0) 88 3, refused 9 1) ∷ []
 
 pub refused-each : map (λ (c : Case). checked (c .0)) refusals ≡ map (λ (c : Case). c .1) refusals
-unfolding word total concepts roles inclusions compositions axioms conceptsAt inclusionsAt compositionsAt axiomsAt kind first second within around role1 role2 result left right ask askEach firstFault firstFaultFrom headerFits totalRight countsInLimits offsetsRight kindRight fieldsAsKind fieldsRight inclusionRight compositionRight sidesRight above risingRight recordChecks catalogueChecks checked allSections headerAlone bytesOf refusals
+unfolding checks-compute allSections headerAlone bytesOf refusals
 refused-each = refl
 
 pub all-sections-accepted : checked allSections ≡ accepted
-unfolding word total concepts roles inclusions compositions axioms conceptsAt inclusionsAt compositionsAt axiomsAt kind first second within around role1 role2 result left right ask askEach firstFault firstFaultFrom headerFits totalRight countsInLimits offsetsRight kindRight fieldsAsKind fieldsRight inclusionRight compositionRight sidesRight above risingRight recordChecks catalogueChecks checked allSections
+unfolding checks-compute allSections
 all-sections-accepted = refl

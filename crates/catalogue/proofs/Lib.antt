@@ -2,6 +2,7 @@ pub mod Words
 pub mod Bounds
 pub mod FirstFault
 pub mod Outcomes
+pub mod Asked
 pub mod Tests
 pub mod Passed
 pub mod Accepted

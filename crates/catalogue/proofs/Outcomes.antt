@@ -1,7 +1,9 @@
 -- Laws of questions in order: what a yes and a no answer, what acceptance says of each, and that what follows waits for acceptance.
 use Prim.Native.Nat.{ℕ, _≤_, _<_}
+use native.Mathlib.Decide.{decLt}
 use native.Mathlib.Omega.{arith}
-use mathlib.Core.Path.{_≡_, refl, sym, ap, _∙_}
+use mathlib.Core.Path.{_≡_, refl, sym, ap, subst, _∙_}
+use mathlib.Core.Logic.{_⊎_, inl, inr}
 use mathlib.Core.Bool.{Bool, true, false}
 use lib.Dec.{eqb}
 use borrow.Author.Tests.{eqb-true, eq-eqb, ne-eqb}
@@ -49,6 +51,30 @@ each-accepted ok n number rest e =
     let a : (eqb (firstFault ok n) n ≡ true) × (rest ≡ accepted) = ask-accepted _ number _ rest e in
     let all : firstFault ok n ≡ n = eqb-true _ n (a .0) in
     (λ k l. first-fault ok n .passed k (omega arith), a .1)
+
+-- What a refusal says: the answer was no, or the rest refuses so.
+pub ask-refused : (t : Bool) (number at : ℕ) (rest : Outcome) {n i : ℕ} → ask t number at rest ≡ refused n i
+    → ((number ≡ n) × ((t ≡ false) × (i ≡ at))) ⊎ ((t ≡ true) × (rest ≡ refused n i))
+unfolding ask
+ask-refused true number at rest e = inr (refl, e)
+ask-refused false number at rest {n} {i} e = inl (let same : number ≡ n = cc in same, (refl, let same : i ≡ at = cc in same))
+
+pub each-refused : (ok : ℕ → Bool) (k number : ℕ) (rest : Outcome) {n i : ℕ} → askEach ok k number rest ≡ refused n i
+    → ((number ≡ n) × (First ok k i × (i < k))) ⊎ (((j : ℕ) → j < k → ok j ≡ true) × (rest ≡ refused n i))
+unfolding askEach
+each-refused ok k number rest {n} {i} e = go (decLt (firstFault ok k) k)
+  where
+    f : First ok k (firstFault ok k)
+    f = first-fault ok k
+
+    go : Dec (firstFault ok k < k) → ((number ≡ n) × (First ok k i × (i < k))) ⊎ (((j : ℕ) → j < k → ok j ≡ true) × (rest ≡ refused n i))
+    go (yes l) =
+        let o : refused number (firstFault ok k) ≡ refused n i = sym (ask-no number _ rest (ne-eqb _ k (λ q. absurd (omega arith)))) ∙ e in
+        let here : firstFault ok k ≡ i = cc in
+        inl (let same : number ≡ n = cc in same, (subst (First ok k) here f, omega arith))
+    go (no g) =
+        let all : firstFault ok k ≡ k = omega (arith, f .within) in
+        inr (λ j l. f .passed j (omega arith), sym (ask-yes number _ rest (eq-eqb _ k all)) ∙ e)
 
 -- A refusal by another number: the answer was yes, and the rest refuses so.
 pub ask-past : (t : Bool) (number at : ℕ) (rest : Outcome) {n i : ℕ} → ¬ (number ≡ n) → ask t number at rest ≡ refused n i → (t ≡ true) × (rest ≡ refused n i)

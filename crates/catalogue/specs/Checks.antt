@@ -1,12 +1,13 @@
 -- Questions 1 to 9, each under its own name, and their order (document 01, Questions).
 use Prim.Native.Nat.{ℕ, zero, suc, _+_, _*_}
 use mathlib.Core.Bool.{Bool, true, _&&_, _||_, false}
-use mathlib.Core.List.{List}
+use mathlib.Core.List.{List, [], _∷_, _++_, map}
 use lib.ListN.{length}
 use lib.Dec.{leb, ltb, eqb}
 use Rattle.catalogue.specs.Header.{total, concepts, roles, inclusions, compositions, axioms, conceptsAt, inclusionsAt, compositionsAt, axiomsAt}
 use Rattle.catalogue.specs.Records.{kind, first, second, within, around, role1, role2, result, left, right}
-use Rattle.catalogue.specs.Outcome.{Outcome, accepted, ask, askEach}
+use Rattle.catalogue.specs.Outcome.{Outcome, accepted}
+use Rattle.catalogue.specs.Questions.{inConcepts, inInclusions, inCompositions, inAxioms, Question, once, each, numberOf, askAll}
 
 -- 1: at least 20 bytes?
 unfoldable pub headerFits : List ℕ → Bool
@@ -66,26 +67,38 @@ unfoldable pub risingRight : List ℕ → ℕ → Bool
 risingRight b zero = true
 risingRight b (suc k) = above (left b k) (right b k) (left b (suc k)) (right b (suc k))
 
--- Questions 5 to 9 in order, each over all its records, and then the rest.
-unfoldable pub recordChecks : List ℕ → Outcome → Outcome
-recordChecks b rest =
-    askEach (kindRight b) (concepts b) 5
-    (askEach (fieldsRight b) (concepts b) 6
-    (askEach (inclusionRight b) (inclusions b) 7
-    (askEach (compositionRight b) (compositions b) 7
-    (askEach (sidesRight b) (axioms b) 8
-    (askEach (risingRight b) (axioms b) 9
-    rest)))))
+-- ---- the questions in their order
 
--- Questions 1 to 9 in order, and then the rest.
+-- 1 to 4, of the header.
+unfoldable pub headerQuestions : List Question
+headerQuestions = once 1 headerFits ∷ once 2 totalRight ∷ once 3 countsInLimits ∷ once 4 offsetsRight ∷ []
+
+-- 5 and 6, of the concepts.
+unfoldable pub conceptQuestions : List Question
+conceptQuestions = each 5 inConcepts kindRight ∷ each 6 inConcepts fieldsRight ∷ []
+
+-- 7, of the inclusions and then of the compositions, each section counted from 0.
+unfoldable pub roleQuestions : List Question
+roleQuestions = each 7 inInclusions inclusionRight ∷ each 7 inCompositions compositionRight ∷ []
+
+-- 8 and 9, of the axioms.
+unfoldable pub axiomQuestions : List Question
+axiomQuestions = each 8 inAxioms sidesRight ∷ each 9 inAxioms risingRight ∷ []
+
+-- 5 to 9, of the records.
+unfoldable pub recordQuestions : List Question
+recordQuestions = conceptQuestions ++ (roleQuestions ++ axiomQuestions)
+
+-- 1 to 9: the questions of a catalogue, and their numbers.
+unfoldable pub catalogueQuestions : List Question
+catalogueQuestions = headerQuestions ++ recordQuestions
+
+unfoldable pub catalogueNumbers : List ℕ
+catalogueNumbers = map numberOf catalogueQuestions
+
+-- The questions of a catalogue, and then the rest.
 unfoldable pub catalogueChecks : List ℕ → Outcome → Outcome
-catalogueChecks b rest =
-    ask (headerFits b) 1 0
-    (ask (totalRight b) 2 0
-    (ask (countsInLimits b) 3 0
-    (ask (offsetsRight b) 4 0
-    (recordChecks b
-    rest))))
+catalogueChecks b rest = askAll catalogueQuestions b rest
 
 -- What the catalogue's own call answers.
 unfoldable pub checked : List ℕ → Outcome

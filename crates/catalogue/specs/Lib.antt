@@ -3,6 +3,7 @@ pub mod Header
 pub mod Records
 pub mod Values
 pub mod Outcome
+pub mod Questions
 pub mod Checks
 pub mod WellFormed
 pub mod Sections

@@ -4,8 +4,9 @@ ghost use mathlib.Core.Path.{_≡_};
 ghost use Prim.Native.Nat.{_+_, _*_, _<_, _≤_};
 ghost use lib.ListN.{length};
 ghost use Rattle.catalogue.specs.Header.{inclusionsAt, compositionsAt, axiomsAt};
-ghost use Rattle.catalogue.specs.Checks.{totalRight, countsInLimits, offsetsRight, kindRight, fieldsRight, inclusionRight, compositionRight, sidesRight, risingRight, recordChecks, checked};
+ghost use Rattle.catalogue.specs.Checks.{totalRight, countsInLimits, offsetsRight, kindRight, fieldsRight, inclusionRight, compositionRight, sidesRight, risingRight, conceptQuestions, roleQuestions, axiomQuestions, recordQuestions, checked};
 ghost use Rattle.catalogue.specs.Outcome.{accepted, firstFault};
+ghost use Rattle.catalogue.specs.Questions.{askAll};
 ghost use Rattle.catalogue.specs.Sections.{Sections};
 ghost use Rattle.catalogue.specs.Verdicts.{outcomeOf, recordCount, recordRight};
 use super::header;
@@ -173,10 +174,10 @@ fn first_fault(b: &[u8], check: RecordCheck, count: usize) -> usize
     k
 }
 
-// Questions 5 to 9, each over all its records before the next.
-fn check_records(b: &[u8]) -> Verdict
+// Questions 5 and 6, each over all concepts before the next.
+fn check_concepts(b: &[u8]) -> Verdict
     requires { ⌜ Sections (now b) ⌝ }
-    ensures { λ r. ⌜ outcomeOf r ≡ recordChecks (now (b .entry)) accepted ⌝ }
+    ensures { λ r. ⌜ outcomeOf r ≡ askAll conceptQuestions (now (b .entry)) accepted ⌝ }
 {
     let n = concepts(b);
     let kind = first_fault(b, RecordCheck::Kind, n);
@@ -187,6 +188,14 @@ fn check_records(b: &[u8]) -> Verdict
     if fields < n {
         return Verdict::Refused(6, fields);
     }
+    Verdict::Accepted
+}
+
+// Question 7, over the inclusions and then over the compositions.
+fn check_roles(b: &[u8]) -> Verdict
+    requires { ⌜ Sections (now b) ⌝ }
+    ensures { λ r. ⌜ outcomeOf r ≡ askAll roleQuestions (now (b .entry)) accepted ⌝ }
+{
     let h = inclusions(b);
     let inclusion = first_fault(b, RecordCheck::InclusionRoles, h);
     if inclusion < h {
@@ -197,6 +206,14 @@ fn check_records(b: &[u8]) -> Verdict
     if composition < k {
         return Verdict::Refused(7, composition);
     }
+    Verdict::Accepted
+}
+
+// Questions 8 and 9, each over all axioms before the next.
+fn check_axioms(b: &[u8]) -> Verdict
+    requires { ⌜ Sections (now b) ⌝ }
+    ensures { λ r. ⌜ outcomeOf r ≡ askAll axiomQuestions (now (b .entry)) accepted ⌝ }
+{
     let a = axioms(b);
     let side = first_fault(b, RecordCheck::Sides, a);
     if side < a {
@@ -207,6 +224,24 @@ fn check_records(b: &[u8]) -> Verdict
         return Verdict::Refused(9, order);
     }
     Verdict::Accepted
+}
+
+// Questions 5 to 9.
+fn check_records(b: &[u8]) -> Verdict
+    requires { ⌜ Sections (now b) ⌝ }
+    ensures { λ r. ⌜ outcomeOf r ≡ askAll recordQuestions (now (b .entry)) accepted ⌝ }
+{
+    let concepts = check_concepts(b);
+    match concepts {
+        Verdict::Refused(number, at) => Verdict::Refused(number, at),
+        Verdict::Accepted => {
+            let roles = check_roles(b);
+            match roles {
+                Verdict::Refused(number, at) => Verdict::Refused(number, at),
+                Verdict::Accepted => check_axioms(b),
+            }
+        }
+    }
 }
 
 // Questions 1 to 9 of a slice of any content and length.

@@ -1,15 +1,11 @@
 -- Demand 1 of every public call.
-use Prim.Native.Nat.{ℕ, _≤_}
+use Prim.Native.Nat.{ℕ}
 use native.Mathlib.Omega.{arith}
 use mathlib.Core.Path.{_≡_, refl, sym, ap, subst, _∙_}
-use mathlib.Core.Bool.{Bool, true, false}
 use mathlib.Core.List.{List, [], _∷_, _++_, List·Memᴰ, List·Memᴰ·head, List·Memᴰ·tail, List·Memᴰ·not-nil}
-use lib.Dec.{eqb, lit≤}
-use Rattle.catalogue.specs.Header.{concepts, inclusions, compositions, axioms}
-use Rattle.catalogue.specs.Outcome.{Outcome, accepted, refused, ask, askEach, firstFault}
-use Rattle.catalogue.specs.Checks.{headerFits, totalRight, countsInLimits, offsetsRight, kindRight, fieldsRight, inclusionRight, compositionRight, sidesRight, risingRight}
-use Rattle.catalogue.specs.Checks.{recordChecks, catalogueChecks, checked}
-use Rattle.catalogue.proofs.Outcomes.{never-both}
+use Rattle.catalogue.specs.Outcome.{Outcome, accepted, refused}
+use Rattle.catalogue.specs.Checks.{catalogueNumbers, checked}
+use Rattle.catalogue.proofs.Refusals.{refused-number}
 use Rattle.catalogue.proofs.Accepted.{accepted-well-formed, accepted-total}
 use Rattle.store.proofs.Work.{work-stays}
 use Rattle.classification.proofs.Outcomes.{answer-outcome}
@@ -26,36 +22,6 @@ use Rattle.demands.specs.PublicCalls.{Returns, measures, classifies, cha
 use Rattle.demands.specs.DemandOne.{Fault, damagedCatalogue, Wrong, refusal, faults, ByFirst, none, here, later, Kept, RefusedFirst, DemandOne, EmptyTold}
 use Rattle.demands.proofs.AfterCalls.{after-calls}
 use Rattle.demands.proofs.Questions.{check-asked, classify-asked, change-asked, read-asked, listing-asked, write-asked}
-
--- ---- the numbers of a damaged catalogue
-
--- A refusal by 1 to 9.
-record ToNine (o : Outcome) : Type 0 where
-  number-is : (number at : ℕ) → o ≡ refused number at → (1 ≤ number) × (number ≤ 9)
-
-nine-ask : (t : Bool) (number at : ℕ) (rest : Outcome) → 1 ≤ number → number ≤ 9 → ToNine rest → ToNine (ask t number at rest)
-unfolding ask
-nine-ask true number at rest low high more = more
-nine-ask false number at rest low high more = record { number-is = λ n i e. let same : number ≡ n = cc in (omega arith, omega arith) }
-
-nine-each : (ok : ℕ → Bool) (k number : ℕ) (rest : Outcome) → 1 ≤ number → number ≤ 9 → ToNine rest → ToNine (askEach ok k number rest)
-unfolding askEach
-nine-each ok k number rest low high more = nine-ask (eqb (firstFault ok k) k) number (firstFault ok k) rest low high more
-
-nine-questions : (b : List ℕ) → ToNine (checked b)
-unfolding checked catalogueChecks recordChecks
-nine-questions b =
-    nine-ask (headerFits b) 1 0 _ (lit≤ tt) (lit≤ tt)
-    (nine-ask (totalRight b) 2 0 _ (lit≤ tt) (lit≤ tt)
-    (nine-ask (countsInLimits b) 3 0 _ (lit≤ tt) (lit≤ tt)
-    (nine-ask (offsetsRight b) 4 0 _ (lit≤ tt) (lit≤ tt)
-    (nine-each (kindRight b) (concepts b) 5 _ (lit≤ tt) (lit≤ tt)
-    (nine-each (fieldsRight b) (concepts b) 6 _ (lit≤ tt) (lit≤ tt)
-    (nine-each (inclusionRight b) (inclusions b) 7 _ (lit≤ tt) (lit≤ tt)
-    (nine-each (compositionRight b) (compositions b) 7 _ (lit≤ tt) (lit≤ tt)
-    (nine-each (sidesRight b) (axioms b) 8 _ (lit≤ tt) (lit≤ tt)
-    (nine-each (risingRight b) (axioms b) 9 _ (lit≤ tt) (lit≤ tt)
-    (record { number-is = λ number at e. absurd (never-both accepted refl e) }))))))))))
 
 -- Every call asks about the catalogue first.
 after-catalogue : (c : PublicCall) → (fs : List Fault) × (faults c ≡ damagedCatalogue ∷ fs)
@@ -86,16 +52,16 @@ module _ (b : List ℕ) (u : Buffers) where
       let q : gs ≡ before ++ (f ∷ after) = cc in
       first-refuses before after f x q (λ g m. clean g (List·Memᴰ·tail m)) w
 
-  by-nine : (c : PublicCall) (o : Outcome) → ByFirst b u (faults c) o → Wrong b u damagedCatalogue
-      → (number : ℕ) × (at : ℕ) × (o ≡ refused number at) × (1 ≤ number) × (number ≤ 9)
-  by-nine c o first damaged = go (checked b) refl
+  by-catalogue : (c : PublicCall) (o : Outcome) → ByFirst b u (faults c) o → Wrong b u damagedCatalogue
+      → (number : ℕ) × (at : ℕ) × (o ≡ refused number at) × List·Memᴰ number catalogueNumbers
+  by-catalogue c o first damaged = go (checked b) refl
     where
       same : o ≡ checked b
       same = let (fs, e) = after-catalogue c in first-refuses [] fs damagedCatalogue first e (λ g m. absurd (List·Memᴰ·not-nil m)) damaged
 
-      go : (x : Outcome) → checked b ≡ x → (number : ℕ) × (at : ℕ) × (o ≡ refused number at) × (1 ≤ number) × (number ≤ 9)
+      go : (x : Outcome) → checked b ≡ x → (number : ℕ) × (at : ℕ) × (o ≡ refused number at) × List·Memᴰ number catalogueNumbers
       go accepted e = absurd (damaged (accepted-well-formed e, accepted-total b e))
-      go (refused number at) e = let (low, high) = nine-questions b .number-is number at e in (number, at, same ∙ e, low, high)
+      go (refused number at) e = (number, at, same ∙ e, refused-number b e)
 
   refused-first : (c : PublicCall) (o : Outcome) (v : Buffers) → ByFirst b u (faults c) o → ((number at : ℕ) → o ≡ refused number at → Kept (share b c) number u v)
       → RefusedFirst b u c o v
@@ -103,7 +69,7 @@ module _ (b : List ℕ) (u : Buffers) where
       record {
         by-first = first;
         each = λ before after f e clean w. first-refuses before after f first e clean w;
-        damaged = by-nine c o first;
+        damaged = by-catalogue c o first;
         keeps = keeps;
         all-else = none-accepted first;
       }

@@ -8,7 +8,7 @@ use lib.ListN.{length}
 use Rattle.rows.specs.Bits.{bit, place}
 use Rattle.catalogue.specs.Header.{total, concepts}
 use Rattle.catalogue.specs.Outcome.{Outcome, accepted, refused}
-use Rattle.catalogue.specs.Checks.{checked}
+use Rattle.catalogue.specs.Checks.{catalogueNumbers, checked}
 use Rattle.catalogue.specs.WellFormed.{WellFormed}
 use Rattle.rules.specs.Axioms.{Axioms}
 use Rattle.rules.specs.Occurrence.{Occurs}
@@ -64,7 +64,8 @@ Wrong b u tooManyAxioms = 4096 < axiomCount b (inForce b (u .store))
 Wrong b u (noRoom gone new) = 4096 < axiomCount b (edited (inForce b (u .store)) gone new)
 Wrong b u (unused names) = (c : ℕ) × List·Memᴰ c names × ¬ (Occurs b (inForce b (u .store)) c)
 
--- "Each has its number": that of its question in documents 01 and 02. A damaged catalogue has 1 to 9, with the record at fault (catalogue's Checks).
+-- "Each has its number": that of its question in documents 01 and 02. A damaged catalogue has that of one of the catalogue's
+-- questions, 1 to 9, with the record at fault (catalogue's Checks).
 abbrev pub refusal : List ℕ → Fault → Outcome
 refusal b damagedCatalogue = checked b
 refusal b shortStore = refused 10 0
@@ -115,7 +116,7 @@ pub record RefusedFirst (b : List ℕ) (u : Buffers) (c : PublicCall) (o : Outco
   pub by-first : ByFirst b u (faults c) o
   pub each : (before after : List Fault) (f : Fault) → faults c ≡ before ++ (f ∷ after) → ((g : Fault) → List·Memᴰ g before → ¬ (Wrong b u g)) → Wrong b u f
       → o ≡ refusal b f
-  pub damaged : Wrong b u damagedCatalogue → (number : ℕ) × (at : ℕ) × (o ≡ refused number at) × (1 ≤ number) × (number ≤ 9)
+  pub damaged : Wrong b u damagedCatalogue → (number : ℕ) × (at : ℕ) × (o ≡ refused number at) × List·Memᴰ number catalogueNumbers
   -- "And a refused call changes no byte it was lent, save work space where its number is laid down to zero it."
   pub keeps : (number at : ℕ) → o ≡ refused number at → Kept (share b c) number u v
   -- "All else is accepted, ends, and answers."

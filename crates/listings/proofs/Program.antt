@@ -13,7 +13,8 @@ use Rattle.rows.specs.Bits.{Bytes}
 use Rattle.catalogue.specs.Outcome.{Outcome, accepted, refused}
 use Rattle.catalogue.specs.Words.{word}
 use Rattle.catalogue.specs.Header.{total}
-use Rattle.catalogue.specs.Checks.{headerFits, totalRight, catalogueChecks}
+use Rattle.catalogue.specs.Questions.{askAll}
+use Rattle.catalogue.specs.Checks.{headerFits, totalRight, headerQuestions, catalogueQuestions, catalogueChecks}
 use Rattle.catalogue.proofs.Outcomes.{ask-yes, ask-no}
 use Rattle.derivation.specs.Decided.{Decides}
 use Rattle.derivation.proofs.Counts.{decides-agree}
@@ -84,7 +85,7 @@ module _ (input store work : List ℕ) (answer : Classified) (store' work' : Lis
 
 -- A total is below 65,536, so no longer input is accepted: question 2 refuses it.
 pub program-text-long : (input : List ℕ) → total input < 65536 → 65536 ≤ length input → programText input ≡ refusal 2
-unfolding classifyChecks catalogueChecks headerFits totalRight
+unfolding askAll classifyChecks catalogueChecks catalogueQuestions headerQuestions headerFits totalRight
 program-text-long input small long =
     program-text-refused input 2 0
     (ask-yes 1 0 _ (le-leb 20 (length input) (omega arith))

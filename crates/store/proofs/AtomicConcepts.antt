@@ -9,7 +9,8 @@ use Rattle.catalogue.specs.Words.{word, bytesOf}
 use Rattle.catalogue.specs.Header.{total, concepts, roles, inclusions, compositions, axioms, conceptsAt, inclusionsAt, compositionsAt, axiomsAt}
 use Rattle.catalogue.specs.Records.{kind, first, second}
 use Rattle.catalogue.specs.Outcome.{accepted, refused}
-use Rattle.catalogue.specs.Checks.{headerFits, totalRight, countsInLimits, catalogueChecks, checked}
+use Rattle.catalogue.specs.Questions.{askAll}
+use Rattle.catalogue.specs.Checks.{headerFits, totalRight, countsInLimits, headerQuestions, catalogueQuestions, catalogueChecks, checked}
 use Rattle.catalogue.specs.WellFormed.{WellFormed}
 use Rattle.catalogue.proofs.Outcomes.{ask-yes, ask-no}
 use Rattle.catalogue.proofs.Accepted.{well-formed-accepted}
@@ -77,7 +78,7 @@ module _ (n : ℕ) where
   atomic-accepted some few = well-formed-accepted (atomic-well-formed some few) total-right
 
   pub atomic-too-many : 512 < n → checked (atomicConcepts n) ≡ refused 3 0
-  unfolding checked catalogueChecks headerFits totalRight countsInLimits
+  unfolding askAll checked catalogueChecks catalogueQuestions headerQuestions headerFits totalRight countsInLimits
   atomic-too-many many =
       ask-yes 1 0 _ (le-leb 20 (length (atomicConcepts n)) (omega (arith, long)))
       ∙ ask-yes 2 0 _ (eq-eqb _ _ total-right)

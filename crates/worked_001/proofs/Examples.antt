@@ -1,6 +1,7 @@
 -- Examples 1, 3 and 4 of document 001.
 use mathlib.Core.Path.{_≡_, refl}
 use mathlib.Core.List.{[], _∷_}
+use Rattle.catalogue.proofs.Examples.{checks-compute}
 use Rattle.derivation.specs.Finite.{some}
 use Rattle.rules.specs.Rules.{Closure}
 use Rattle.rules.specs.Changes.{OverDeleted}
@@ -10,7 +11,7 @@ use Rattle.store.specs.Written.{rising}
 use Rattle.edits.proofs.Members.{onList}
 use Rattle.worked_001.specs.Catalogues.{example1, example4}
 use Rattle.worked_common.specs.Entries.{Classified, Changed, Rows}
-use Rattle.worked_common.specs.Computed.{checkedOf, pairsOf, linksOf, rowsOf, overRowsOf, removedOf, returnedOf, gainedOf, brokenOf, gainingOf}
+use Rattle.worked_common.specs.Computed.{pairsOf, linksOf, rowsOf, overRowsOf, removedOf, returnedOf, gainedOf, brokenOf, gainingOf}
 use Rattle.worked_001.specs.Table.{example1Axioms, example3Axioms, example4Axioms, example4Axioms'}
 use Rattle.worked_common.proofs.Classified.{classified}
 use Rattle.worked_common.proofs.Changed.{Computes, changed, over-rows}
@@ -20,14 +21,14 @@ use Rattle.catalogue.specs.WellFormed.{WellFormed}
 use Rattle.catalogue.proofs.Accepted.{accepted-well-formed}
 
 example1-accepted : checked example1 ≡ accepted
-unfolding checkedOf example1
+unfolding checks-compute example1
 example1-accepted = refl
 
 pub example1-well-formed : WellFormed example1
 example1-well-formed = accepted-well-formed example1-accepted
 
 example4-accepted : checked example4 ≡ accepted
-unfolding checkedOf example4
+unfolding checks-compute example4
 example4-accepted = refl
 
 pub example4-well-formed : WellFormed example4

@@ -5,6 +5,7 @@ use mathlib.Core.Path.{_≡_, refl, subst, sym, _∙_}
 use mathlib.Core.Bool.{false}
 use mathlib.Core.List.{[], _∷_}
 use lib.ListN.{length, take, drop}
+use Rattle.catalogue.proofs.Examples.{checks-compute}
 use Rattle.catalogue.specs.Words.{word}
 use Rattle.catalogue.specs.Header.{concepts, roles}
 use Rattle.catalogue.specs.Outcome.{accepted}
@@ -19,7 +20,7 @@ use Rattle.worked_w7.specs.Catalogues.{w7}
 use Rattle.rules.specs.Axioms.{InRange}
 use Rattle.rules.proofs.Axioms.{catalogue-in-range}
 use Rattle.worked_common.specs.Entries.{Classified, Changed}
-use Rattle.worked_common.specs.Computed.{checkedOf, pairsOf, linksOf, rowsOf, removedOf, returnedOf, gainedOf, brokenOf, gainingOf}
+use Rattle.worked_common.specs.Computed.{pairsOf, linksOf, rowsOf, removedOf, returnedOf, gainedOf, brokenOf, gainingOf}
 use Rattle.worked_w7.specs.Table.{axioms7, axioms7'}
 use Rattle.worked_common.proofs.Classified.{classified}
 use Rattle.worked_common.proofs.Changed.{Computes, changed}
@@ -31,7 +32,7 @@ use Rattle.catalogue.specs.WellFormed.{WellFormed}
 use Rattle.catalogue.proofs.Accepted.{accepted-well-formed}
 
 pub w7-accepted : checked w7 ≡ accepted
-unfolding checkedOf w7
+unfolding checks-compute w7
 w7-accepted = refl
 
 pub w7-well-formed : WellFormed w7

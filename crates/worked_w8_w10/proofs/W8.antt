@@ -9,6 +9,7 @@ use lib.Dec.{eqb}
 use lib.ListN.{length, take, replicate, length-append, length-replicate, length-take}
 use lib.Seq.{take-all}
 use borrow.Author.Tests.{eq-eqb}
+use Rattle.catalogue.proofs.Examples.{checks-compute}
 use Rattle.catalogue.specs.Words.{word, bytesOf}
 use Rattle.catalogue.specs.Header.{concepts, roles, axioms, axiomsAt}
 use Rattle.catalogue.specs.Records.{kind}
@@ -55,14 +56,14 @@ use Rattle.worked_w8_w10.specs.Catalogues.{w8}
 use Rattle.worked_w8_w10.specs.Stores.{atomicBlock, atomicStore, w8Store}
 use Rattle.worked_common.specs.Calls.{ClassifyGives, ChangeGives}
 use Rattle.worked_common.specs.Entries.{Changed}
-use Rattle.worked_common.specs.Computed.{checkedOf, closureOf, removedOf, returnedOf, gainedOf, brokenOf, gainingOf}
+use Rattle.worked_common.specs.Computed.{closureOf, removedOf, returnedOf, gainedOf, brokenOf, gainingOf}
 use Rattle.worked_w8_w10.specs.Table.{axioms8}
 use Rattle.worked_common.proofs.Changed.{Computes, changed}
 use Rattle.worked_common.proofs.Classifying.{classify-gives}
 use Rattle.worked_common.proofs.Editing.{listsAsked, changed-in-range, change-gives}
 
 pub w8-accepted : checked w8 ≡ accepted
-unfolding checkedOf w8
+unfolding checks-compute w8
 w8-accepted = refl
 
 pub w8-well-formed : WellFormed w8

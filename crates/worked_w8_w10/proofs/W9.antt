@@ -4,6 +4,7 @@ use mathlib.Core.Path.{_≡_, refl}
 use mathlib.Core.Bool.{true}
 use mathlib.Core.List.{map}
 use lib.ListN.{replicate}
+use Rattle.catalogue.proofs.Examples.{checks-compute}
 use Rattle.catalogue.specs.Examples.{w1}
 use Rattle.rows.specs.Bits.{byteBit, bit, setBit, someBelow, place}
 use Rattle.layout.specs.Parts.{width, used, rowCount, setFrom, spareClear}
@@ -14,8 +15,7 @@ use Rattle.reading.specs.Checks.{openChecks, contentChecks, readChecks}
 use Rattle.lookups.specs.Answers.{lookedUp}
 use Rattle.lookups.specs.declared.pairs.Looked.the-variants.{Refused}
 use Rattle.worked_w1_w6.specs.Stores.{w1Store}
-use Rattle.worked_common.specs.Computed.{checkedOf}
 
 pub w9-lookup : map (λ (r : ℕ). lookedUp w1 0 3 (setBit w1Store (8 * r + 7))) (rising (λ (r : ℕ). true) 35) ≡ replicate 35 (Refused 13 0)
-unfolding checkedOf w1 byteBit bit setBit someBelow rising place width used rowCount setFrom spareClear storeFits askStore askSpare openChecks contentChecks readChecks w1Store says lookedUp
+unfolding checks-compute w1 byteBit bit setBit someBelow rising place width used rowCount setFrom spareClear storeFits askStore askSpare openChecks contentChecks readChecks w1Store says lookedUp
 w9-lookup = refl

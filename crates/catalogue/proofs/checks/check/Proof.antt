@@ -4,7 +4,8 @@ use borrow.Author.Tests.{le-leb, lt-leb, not-true, not-false}
 use mathlib.Core.Path.{_≡_, sym, _∙_}
 use mathlib.Core.Bool.{true}
 use denote.Ref.{now}
-use Rattle.catalogue.specs.Checks.{headerFits, totalRight, countsInLimits, offsetsRight, catalogueChecks, checked}
+use Rattle.catalogue.specs.Questions.{askAll}
+use Rattle.catalogue.specs.Checks.{headerFits, totalRight, countsInLimits, offsetsRight, headerQuestions, catalogueQuestions, catalogueChecks, checked}
 use Rattle.catalogue.proofs.Outcomes.{ask-yes, ask-no}
 use Rattle.catalogue.proofs.Tests.{sections}
 use Rattle.catalogue.proofs.checks.check.Statement.{statement}
@@ -25,35 +26,35 @@ offsets-right : (c : tie.Else4) → offsetsRight (now (c .before .before .before
 offsets-right c = sym (c .before .offsets-right .ensures) ∙ not-false _ (c .if4 .left)
 
 returns : tie.Need-returns
-unfolding checked catalogueChecks headerFits
+unfolding askAll checked catalogueChecks catalogueQuestions headerQuestions headerFits
 returns c = sym (ask-no 1 0 _ (lt-leb 20 _ (c .if1 .taken)))
 
 total-right-requires : tie.Need-total-right-requires
 total-right-requires c κs = search needs
 
 returns-2 : tie.Need-returns-2
-unfolding checked catalogueChecks
+unfolding askAll checked catalogueChecks catalogueQuestions headerQuestions
 returns-2 c = sym (ask-yes 1 0 _ (header-fits (c .before .before)) ∙ ask-no 2 0 _ (sym (c .before .total-right .ensures) ∙ not-true _ (c .if2 .taken)))
 
 counts-in-limits-requires : tie.Need-counts-in-limits-requires
 counts-in-limits-requires c κs = search needs
 
 returns-3 : tie.Need-returns-3
-unfolding checked catalogueChecks
+unfolding askAll checked catalogueChecks catalogueQuestions headerQuestions
 returns-3 c = sym (ask-yes 1 0 _ (header-fits (c .before .before .before .before)) ∙ ask-yes 2 0 _ (total-right (c .before .before)) ∙ ask-no 3 0 _ (sym (c .before .counts-in-limits .ensures) ∙ not-true _ (c .if3 .taken)))
 
 offsets-right-requires : tie.Need-offsets-right-requires
 offsets-right-requires c κs = search needs
 
 returns-4 : tie.Need-returns-4
-unfolding checked catalogueChecks
+unfolding askAll checked catalogueChecks catalogueQuestions headerQuestions
 returns-4 c = sym (ask-yes 1 0 _ (header-fits (c .before .before .before .before .before .before)) ∙ ask-yes 2 0 _ (total-right (c .before .before .before .before)) ∙ ask-yes 3 0 _ (counts-in-limits (c .before .before)) ∙ ask-no 4 0 _ (sym (c .before .offsets-right .ensures) ∙ not-true _ (c .if4 .taken)))
 
 check-records-requires : tie.Need-check-records-requires
 check-records-requires c κs = sections _ (total-right (c .before .before .before .before)) (offsets-right c)
 
 returns-5 : tie.Need-returns-5
-unfolding checked catalogueChecks
+unfolding askAll checked catalogueChecks catalogueQuestions headerQuestions
 returns-5 c = c .check-records .ensures ∙ sym (ask-yes 1 0 _ (header-fits (c .before .before .before .before .before .before .before)) ∙ ask-yes 2 0 _ (total-right (c .before .before .before .before .before)) ∙ ask-yes 3 0 _ (counts-in-limits (c .before .before .before)) ∙ ask-yes 4 0 _ (offsets-right (c .before)))
 
 pub check-spec : {M : Type 1} → statement M
