@@ -2,10 +2,11 @@
 ghost use mathlib.Core.Path.{_≡_};
 ghost use Prim.Native.Nat.{_+_, _*_, _≤_};
 ghost use lib.ListN.{length};
+ghost use Rattle.catalogue.specs.Words as words;
 ghost use Rattle.catalogue.specs.Header.{inclusionsAt, compositionsAt, axiomsAt};
 ghost use Rattle.catalogue.specs.Values.{ConceptRead, InclusionRead, CompositionRead, AxiomRead};
 use super::header;
-use super::header::number;
+use super::header::word;
 
 // A concept: its kind, and its two parts or zeros.
 pub struct Concept {
@@ -29,14 +30,15 @@ impl Concept {
 
     pub const SIZE: usize = 6;
 
-    // The concept that six bytes give.
-    pub fn from_bytes(k0: u8, k1: u8, f0: u8, f1: u8, s0: u8, s1: u8) -> Concept
-        ensures { λ r. ⌜ (r .kind ≡ k0 + 256 * k1) × (r .first ≡ f0 + 256 * f1) × (r .second ≡ s0 + 256 * s1) ⌝ }
+    // The concept that the six bytes at p give.
+    pub fn from_bytes(b: &[u8], p: usize) -> Concept
+        requires { ⌜ p + 6 ≤ length (now b) ⌝ }
+        ensures { λ r. ⌜ (r .kind ≡ words.word (now (b .entry)) p) × (r .first ≡ words.word (now (b .entry)) (p + 2)) × (r .second ≡ words.word (now (b .entry)) (p + 4)) ⌝ }
     {
         Concept {
-            kind: number(k0, k1),
-            first: number(f0, f1),
-            second: number(s0, s1),
+            kind: word(b, p),
+            first: word(b, p + 2),
+            second: word(b, p + 4),
         }
     }
 
@@ -45,8 +47,7 @@ impl Concept {
         requires { ⌜ 26 + 6 * i ≤ length (now b) ⌝ }
         ensures { λ r. ⌜ ConceptRead (now (b .entry)) i r ⌝ }
     {
-        let p = header::SIZE + Concept::SIZE * i;
-        Concept::from_bytes(b[p], b[p + 1], b[p + 2], b[p + 3], b[p + 4], b[p + 5])
+        Concept::from_bytes(b, header::SIZE + Concept::SIZE * i)
     }
 }
 
@@ -61,13 +62,14 @@ impl Inclusion {
 
     pub const SIZE: usize = 4;
 
-    // The inclusion that four bytes give.
-    pub fn from_bytes(w0: u8, w1: u8, a0: u8, a1: u8) -> Inclusion
-        ensures { λ r. ⌜ (r .within ≡ w0 + 256 * w1) × (r .around ≡ a0 + 256 * a1) ⌝ }
+    // The inclusion that the four bytes at p give.
+    pub fn from_bytes(b: &[u8], p: usize) -> Inclusion
+        requires { ⌜ p + 4 ≤ length (now b) ⌝ }
+        ensures { λ r. ⌜ (r .within ≡ words.word (now (b .entry)) p) × (r .around ≡ words.word (now (b .entry)) (p + 2)) ⌝ }
     {
         Inclusion {
-            within: number(w0, w1),
-            around: number(a0, a1),
+            within: word(b, p),
+            around: word(b, p + 2),
         }
     }
 
@@ -76,8 +78,7 @@ impl Inclusion {
         requires { ⌜ (20 ≤ length (now b)) × (inclusionsAt (now b) + 4 * k + 4 ≤ length (now b)) ⌝ }
         ensures { λ r. ⌜ InclusionRead (now (b .entry)) k r ⌝ }
     {
-        let p = header::inclusions_at(b) + Inclusion::SIZE * k;
-        Inclusion::from_bytes(b[p], b[p + 1], b[p + 2], b[p + 3])
+        Inclusion::from_bytes(b, header::inclusions_at(b) + Inclusion::SIZE * k)
     }
 }
 
@@ -93,14 +94,15 @@ impl Composition {
 
     pub const SIZE: usize = 6;
 
-    // The composition that six bytes give.
-    pub fn from_bytes(f0: u8, f1: u8, s0: u8, s1: u8, r0: u8, r1: u8) -> Composition
-        ensures { λ r. ⌜ (r .first ≡ f0 + 256 * f1) × (r .second ≡ s0 + 256 * s1) × (r .result ≡ r0 + 256 * r1) ⌝ }
+    // The composition that the six bytes at p give.
+    pub fn from_bytes(b: &[u8], p: usize) -> Composition
+        requires { ⌜ p + 6 ≤ length (now b) ⌝ }
+        ensures { λ r. ⌜ (r .first ≡ words.word (now (b .entry)) p) × (r .second ≡ words.word (now (b .entry)) (p + 2)) × (r .result ≡ words.word (now (b .entry)) (p + 4)) ⌝ }
     {
         Composition {
-            first: number(f0, f1),
-            second: number(s0, s1),
-            result: number(r0, r1),
+            first: word(b, p),
+            second: word(b, p + 2),
+            result: word(b, p + 4),
         }
     }
 
@@ -109,8 +111,7 @@ impl Composition {
         requires { ⌜ (20 ≤ length (now b)) × (compositionsAt (now b) + 6 * k + 6 ≤ length (now b)) ⌝ }
         ensures { λ r. ⌜ CompositionRead (now (b .entry)) k r ⌝ }
     {
-        let p = header::compositions_at(b) + Composition::SIZE * k;
-        Composition::from_bytes(b[p], b[p + 1], b[p + 2], b[p + 3], b[p + 4], b[p + 5])
+        Composition::from_bytes(b, header::compositions_at(b) + Composition::SIZE * k)
     }
 }
 
@@ -125,13 +126,14 @@ impl Axiom {
 
     pub const SIZE: usize = 4;
 
-    // The axiom that four bytes give.
-    pub fn from_bytes(l0: u8, l1: u8, r0: u8, r1: u8) -> Axiom
-        ensures { λ r. ⌜ (r .left ≡ l0 + 256 * l1) × (r .right ≡ r0 + 256 * r1) ⌝ }
+    // The axiom that the four bytes at p give.
+    pub fn from_bytes(b: &[u8], p: usize) -> Axiom
+        requires { ⌜ p + 4 ≤ length (now b) ⌝ }
+        ensures { λ r. ⌜ (r .left ≡ words.word (now (b .entry)) p) × (r .right ≡ words.word (now (b .entry)) (p + 2)) ⌝ }
     {
         Axiom {
-            left: number(l0, l1),
-            right: number(r0, r1),
+            left: word(b, p),
+            right: word(b, p + 2),
         }
     }
 
@@ -140,7 +142,6 @@ impl Axiom {
         requires { ⌜ (20 ≤ length (now b)) × (axiomsAt (now b) + 4 * k + 4 ≤ length (now b)) ⌝ }
         ensures { λ r. ⌜ AxiomRead (now (b .entry)) k r ⌝ }
     {
-        let p = header::axioms_at(b) + Axiom::SIZE * k;
-        Axiom::from_bytes(b[p], b[p + 1], b[p + 2], b[p + 3])
+        Axiom::from_bytes(b, header::axioms_at(b) + Axiom::SIZE * k)
     }
 }

@@ -12,8 +12,7 @@ pub fn axiom_at(list: &[u8], k: usize) -> Axiom
     requires { ⌜ 4 * k + 4 ≤ length (now list) ⌝ }
     ensures { λ r. ⌜ ReadAt (now (list .entry)) k r ⌝ }
 {
-    let p = Axiom::SIZE * k;
-    Axiom::from_bytes(list[p], list[p + 1], list[p + 2], list[p + 3])
+    Axiom::from_bytes(list, Axiom::SIZE * k)
 }
 
 // How many axioms two lists have.
