@@ -1,11 +1,17 @@
 -- Laws of numbers of two bytes.
-use Prim.Native.Nat.{ℕ, _+_, _<_}
+use Prim.Native.Nat.{ℕ, _+_, _*_, _<_}
 use native.Mathlib.Omega.{arith}
+use mathlib.Core.Path.{_≡_}
 use mathlib.Core.List.{List}
 use lib.ListN.{getD}
 use mir.Syntax.{w8}
 use mir.Val.{Fits}
 use Rattle.catalogue.specs.Words.{word}
+
+-- Two bytes that stand side by side are the number at the first.
+pub two-bytes : (b : List ℕ) (p q i : ℕ) → p ≡ i → q ≡ i + 1 → getD b p 0 + 256 * getD b q 0 ≡ word b i
+unfolding word
+two-bytes b p q i low high = rw (low, high)
 
 -- Bytes make a number of sixteen bits.
 pub word-below : (b : List ℕ) → ((i : ℕ) → Fits w8 (getD b i 0)) → (i : ℕ) → word b i < 65536

@@ -6,6 +6,7 @@ ghost use Rattle.catalogue.specs.Words as words;
 ghost use Rattle.catalogue.specs.Header.{inclusionsAt, compositionsAt, axiomsAt};
 ghost use Rattle.catalogue.specs.Values.{ConceptRead, InclusionRead, CompositionRead, AxiomRead};
 use super::header;
+use super::header::number;
 use super::header::word;
 
 // A concept: its kind, and its two parts or zeros.
@@ -30,15 +31,14 @@ impl Concept {
 
     pub const SIZE: usize = 6;
 
-    // The concept that the six bytes at p give.
-    pub fn from_bytes(b: &[u8], p: usize) -> Concept
-        requires { ⌜ p + 6 ≤ length (now b) ⌝ }
-        ensures { λ r. ⌜ (r .kind ≡ words.word (now (b .entry)) p) × (r .first ≡ words.word (now (b .entry)) (p + 2)) × (r .second ≡ words.word (now (b .entry)) (p + 4)) ⌝ }
+    // The concept that six bytes give.
+    pub fn from_bytes(k0: u8, k1: u8, f0: u8, f1: u8, s0: u8, s1: u8) -> Concept
+        ensures { λ r. ⌜ (r .kind ≡ k0 + 256 * k1) × (r .first ≡ f0 + 256 * f1) × (r .second ≡ s0 + 256 * s1) ⌝ }
     {
         Concept {
-            kind: word(b, p),
-            first: word(b, p + 2),
-            second: word(b, p + 4),
+            kind: number(k0, k1),
+            first: number(f0, f1),
+            second: number(s0, s1),
         }
     }
 
@@ -47,7 +47,8 @@ impl Concept {
         requires { ⌜ 26 + 6 * i ≤ length (now b) ⌝ }
         ensures { λ r. ⌜ ConceptRead (now (b .entry)) i r ⌝ }
     {
-        Concept::from_bytes(b, header::SIZE + Concept::SIZE * i)
+        let p = header::SIZE + Concept::SIZE * i;
+        Concept::from_bytes(b[p], b[p + 1], b[p + 2], b[p + 3], b[p + 4], b[p + 5])
     }
 }
 
@@ -63,7 +64,7 @@ impl Inclusion {
     pub const SIZE: usize = 4;
 
     // The inclusion that the four bytes at p give.
-    pub fn from_bytes(b: &[u8], p: usize) -> Inclusion
+    pub fn from_slice(b: &[u8], p: usize) -> Inclusion
         requires { ⌜ p + 4 ≤ length (now b) ⌝ }
         ensures { λ r. ⌜ (r .within ≡ words.word (now (b .entry)) p) × (r .around ≡ words.word (now (b .entry)) (p + 2)) ⌝ }
     {
@@ -78,7 +79,7 @@ impl Inclusion {
         requires { ⌜ (20 ≤ length (now b)) × (inclusionsAt (now b) + 4 * k + 4 ≤ length (now b)) ⌝ }
         ensures { λ r. ⌜ InclusionRead (now (b .entry)) k r ⌝ }
     {
-        Inclusion::from_bytes(b, header::inclusions_at(b) + Inclusion::SIZE * k)
+        Inclusion::from_slice(b, header::inclusions_at(b) + Inclusion::SIZE * k)
     }
 }
 
@@ -95,7 +96,7 @@ impl Composition {
     pub const SIZE: usize = 6;
 
     // The composition that the six bytes at p give.
-    pub fn from_bytes(b: &[u8], p: usize) -> Composition
+    pub fn from_slice(b: &[u8], p: usize) -> Composition
         requires { ⌜ p + 6 ≤ length (now b) ⌝ }
         ensures { λ r. ⌜ (r .first ≡ words.word (now (b .entry)) p) × (r .second ≡ words.word (now (b .entry)) (p + 2)) × (r .result ≡ words.word (now (b .entry)) (p + 4)) ⌝ }
     {
@@ -111,7 +112,7 @@ impl Composition {
         requires { ⌜ (20 ≤ length (now b)) × (compositionsAt (now b) + 6 * k + 6 ≤ length (now b)) ⌝ }
         ensures { λ r. ⌜ CompositionRead (now (b .entry)) k r ⌝ }
     {
-        Composition::from_bytes(b, header::compositions_at(b) + Composition::SIZE * k)
+        Composition::from_slice(b, header::compositions_at(b) + Composition::SIZE * k)
     }
 }
 
@@ -127,7 +128,7 @@ impl Axiom {
     pub const SIZE: usize = 4;
 
     // The axiom that the four bytes at p give.
-    pub fn from_bytes(b: &[u8], p: usize) -> Axiom
+    pub fn from_slice(b: &[u8], p: usize) -> Axiom
         requires { ⌜ p + 4 ≤ length (now b) ⌝ }
         ensures { λ r. ⌜ (r .left ≡ words.word (now (b .entry)) p) × (r .right ≡ words.word (now (b .entry)) (p + 2)) ⌝ }
     {
@@ -142,6 +143,6 @@ impl Axiom {
         requires { ⌜ (20 ≤ length (now b)) × (axiomsAt (now b) + 4 * k + 4 ≤ length (now b)) ⌝ }
         ensures { λ r. ⌜ AxiomRead (now (b .entry)) k r ⌝ }
     {
-        Axiom::from_bytes(b, header::axioms_at(b) + Axiom::SIZE * k)
+        Axiom::from_slice(b, header::axioms_at(b) + Axiom::SIZE * k)
     }
 }

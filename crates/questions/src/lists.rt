@@ -12,7 +12,7 @@ pub fn axiom_at(list: &[u8], k: usize) -> Axiom
     requires { ⌜ 4 * k + 4 ≤ length (now list) ⌝ }
     ensures { λ r. ⌜ ReadAt (now (list .entry)) k r ⌝ }
 {
-    Axiom::from_bytes(list, Axiom::SIZE * k)
+    Axiom::from_slice(list, Axiom::SIZE * k)
 }
 
 // How many axioms two lists have.

@@ -4,15 +4,15 @@ use Rattle.edits.specs.Lists.{leftIn, rightIn}
 use Rattle.questions.proofs.lists.axiom_at.Statement.{statement}
 use Rattle.questions.proofs.lists.axiom_at.Tie as tie
 
-mul-from-bytes : tie.Need-mul-from-bytes
-mul-from-bytes c = search needs
+mul-from-slice : tie.Need-mul-from-slice
+mul-from-slice c = search needs
 
-from-bytes-requires : tie.Need-from-bytes-requires
-from-bytes-requires c κs = search needs
+from-slice-requires : tie.Need-from-slice-requires
+from-slice-requires c κs = search needs
 
 returns : tie.Need-returns
 unfolding leftIn rightIn
 returns c = search needs
 
 pub axiom-at-spec : {M : Type 1} → statement M
-axiom-at-spec = tie.close (tie.spec mul-from-bytes from-bytes-requires returns)
+axiom-at-spec = tie.close (tie.spec mul-from-slice from-slice-requires returns)
