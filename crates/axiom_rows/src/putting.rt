@@ -2,8 +2,8 @@
 use bytes::copy;
 use catalogue::Axiom;
 use layout::Shape;
+use row_steps::clear;
 use rows::put_in_row;
-use steps::clear;
 ghost use mathlib.Core.Path.{_≡_};
 ghost use Prim.Native.Nat.{_≤_};
 ghost use lib.ListN.{length};

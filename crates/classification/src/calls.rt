@@ -2,12 +2,12 @@
 use super::Classified;
 use super::closing::close;
 use axiom_rows::put_axioms;
+use buffered_change::buffers::table;
 use catalogue::Verdict;
 use catalogue::check;
 use layout::Shape;
 use layout::used;
 use layout::work_used;
-use lending::buffers::table;
 use rows::count;
 use store::store_fits;
 use store::work_fits;

@@ -8,8 +8,8 @@ use lib.ListN.{length, take}
 use lib.Seq.{take-length, drop-length}
 use Rattle.catalogue.specs.Outcome.{accepted}
 use Rattle.rules.specs.Axioms.{Axioms, catalogueAxioms, none}
-use Rattle.edits.specs.Edits.{Lent, lend, lengths, Edits}
-use Rattle.edits.specs.declared.Changed.{Changed}
+use Rattle.change_contract.specs.Edits.{Lent, lend, lengths, Edits}
+use Rattle.change_contract.specs.declared.Changed.{Changed}
 use Rattle.classification.specs.Classified.{classifyChecks, Classifies}
 use Rattle.classification.specs.declared.Classified.{Classified}
 use Rattle.classification.proofs.Outcomes.{answer-outcome}
@@ -24,10 +24,10 @@ after-calls P f b store t ts last s F e k long =
 
 -- ---- turns that are lent the whole store
 
-unfoldable pub changeTurn : (b gone new : List ℕ) (u : Lent) (answer : Changed) (v : Lent) → Turn
-changeTurn b gone new u answer v =
+unfoldable pub changeTurn : (b withdrawn added : List ℕ) (u : Lent) (answer : Changed) (v : Lent) → Turn
+changeTurn b withdrawn added u answer v =
     record {
-      call = record { request = change gone new; catalogue = b; lent = lengths u; from = 0 };
+      call = record { request = change withdrawn added; catalogue = b; lent = lengths u; from = 0 };
       work = u .work;
       list = u .list;
       answer = changed answer;
@@ -36,14 +36,14 @@ changeTurn b gone new u answer v =
       store-after = v .store;
     }
 
-pub change-runs : (b gone new : List ℕ) (u : Lent) (answer : Changed) (v : Lent) → Edits b gone new u answer v → RunsOn (u .store) (changeTurn b gone new u answer v)
+pub change-runs : (b withdrawn added : List ℕ) (u : Lent) (answer : Changed) (v : Lent) → Edits b withdrawn added u answer v → RunsOn (u .store) (changeTurn b withdrawn added u answer v)
 unfolding changeTurn
-change-runs b gone new u answer v call =
+change-runs b withdrawn added u answer v call =
     record {
       lent-is = ap (λ (l : List ℕ). record { store = length l; work = length (u .work); list = length (u .list) }) (take-length (u .store));
       part = inl refl;
       part-after = v .store;
-      contract = changes (subst (λ (s : List ℕ). Edits b gone new (lend s (u .work) (u .list)) answer v) (sym (take-length (u .store))) call);
+      contract = changes (subst (λ (s : List ℕ). Edits b withdrawn added (lend s (u .work) (u .list)) answer v) (sym (take-length (u .store))) call);
       store-is = sym (ap (λ (l : List ℕ). v .store ++ l) (drop-length (u .store)) ∙ append-nil (v .store));
     }
 

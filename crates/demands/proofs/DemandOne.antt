@@ -9,14 +9,14 @@ use Rattle.catalogue.proofs.Refusals.{refused-number}
 use Rattle.catalogue.proofs.Accepted.{accepted-well-formed, accepted-total}
 use Rattle.store.proofs.Work.{work-stays}
 use Rattle.classification.proofs.Outcomes.{answer-outcome}
-use Rattle.edits.proofs.Outcomes.{answer-outcome as change-answer}
+use Rattle.change_contract.proofs.Outcomes.{answer-outcome as change-answer}
 use Rattle.writing.proofs.Outcomes.{answer-outcome as write-answer, refused-keeps}
 use Rattle.lookups.specs.Listings.{kindsUnder, listAfter}
 use Rattle.row_parts.specs.Rows.{rowAnswer}
 use Rattle.lookups.proofs.Outcomes.{lookup-outcome, list-outcome}
 use Rattle.row_parts.proofs.Outcomes.{row-outcome}
 use Rattle.meaning.proofs.DemandEntries.{listing-finds}
-use Rattle.sizing.proofs.Answered.{answer-outcome as check-answer}
+use Rattle.buffer_sizes.proofs.Answered.{answer-outcome as check-answer}
 use Rattle.demands.specs.PublicCalls.{PublicCall, check, classify, change, lookup, listing, row, write, Buffers, lentOf, takes, share}
 use Rattle.demands.specs.PublicCalls.{Returns, measures, classifies, changes, looks-up, lists, hands-out, writes}
 use Rattle.demands.specs.DemandOne.{Fault, damagedCatalogue, Wrong, refusal, faults, ByFirst, none, here, later, Kept, RefusedFirst, DemandOne, EmptyTold}
@@ -27,7 +27,7 @@ use Rattle.demands.proofs.Questions.{check-asked, classify-asked, chang
 after-catalogue : (c : PublicCall) → (fs : List Fault) × (faults c ≡ damagedCatalogue ∷ fs)
 after-catalogue check = (_, refl)
 after-catalogue classify = (_, refl)
-after-catalogue (change gone new) = (_, refl)
+after-catalogue (change withdrawn added) = (_, refl)
 after-catalogue (lookup c d) = (_, refl)
 after-catalogue (listing d) = (_, refl)
 after-catalogue (row c) = (_, refl)
@@ -90,9 +90,9 @@ calls b u c o v (classifies {a = a} {store = store} {work = work} call) =
     (λ number at e.
     let r = call .refuses number at (sym answer ∙ e) in
     record { store = r .store-kept; work = r .work-kept; list = refl; output = refl })
-calls b u c o v (changes {gone = gone} {new = new} {a = a} {v = left} call) =
-    let answer = change-answer b gone new (lentOf u) a left call in
-    refused-first b u c o v (subst (ByFirst b u (faults c)) (sym answer) (change-asked b u gone new))
+calls b u c o v (changes {withdrawn = withdrawn} {added = added} {a = a} {v = left} call) =
+    let answer = change-answer b withdrawn added (lentOf u) a left call in
+    refused-first b u c o v (subst (ByFirst b u (faults c)) (sym answer) (change-asked b u withdrawn added))
     (λ number at e.
     let k = call .refuses number at (sym answer ∙ e) in
     record { store = k .store-kept; work = k .work-kept; list = k .list-kept; output = refl })

@@ -68,7 +68,7 @@ module _ (b : List ℕ) (F : Axioms) (store : List ℕ) (t : Turn) (known : Know
           keeps = known .keeps;
           rest = known .rest e o;
           fresh = left .fresh;
-          changes = λ gone new q p. known .changes e o gone new q;
+          changes = λ withdrawn added q p. known .changes e o withdrawn added q;
         },
         left,
       )
@@ -87,7 +87,7 @@ module _ (b : List ℕ) (F : Axioms) (store : List ℕ) (t : Turn) (known : Know
               keeps = known .keeps;
               rest = ap (drop (used b)) kept;
               fresh = left .fresh;
-              changes = λ gone new q p. let z : _≡_ {A = ℕ} 0 1 = cc in absurd (omega arith);
+              changes = λ withdrawn added q p. let z : _≡_ {A = ℕ} 0 1 = cc in absurd (omega arith);
             },
             left,
           )

@@ -20,25 +20,25 @@ use Rattle.store.specs.Written.{axiomCount, written}
 use Rattle.store.specs.Fresh.{Fresh}
 use Rattle.store.specs.Work.{zeroed}
 use Rattle.store.proofs.Examples.{w1-lengths, w1-axiom-count}
-use Rattle.lists.specs.Lists.{withFront}
+use Rattle.number_lists.specs.Lists.{withFront}
 use Rattle.classification.specs.declared.Classified.the-variants as classifying
-use Rattle.edits.specs.Lists.{edited}
-use Rattle.edits.specs.Edits.{Lent, lend, asked, Edits}
-use Rattle.edits.specs.declared.Changed.the-variants.{Done, Refused}
-use Rattle.edits.proofs.Asking.{refused-catalogue, refused-store}
-use Rattle.edits.proofs.Checks.{asked-by-axioms}
-use Rattle.edits.proofs.Outcomes.{ends-refused, ends-fresh}
-use Rattle.worked_w1_w6.specs.Stores.{w1Store, w3Store}
-use Rattle.worked_common.specs.Entries.{Changed}
-use Rattle.worked_w1_w6.specs.Table.{axioms1, axioms3}
-use Rattle.worked_w1_moves.specs.Table.{moved1}
-use Rattle.worked.proofs.Worked.{worked}
-use Rattle.worked_common.proofs.Stores.{otherAxiom, otherExpression, otherByte, fresh-computed}
-use Rattle.worked_common.proofs.Editing.{listsAsked, asked-of-lists, changed-in-range, change-asked}
-use Rattle.worked_w1_w6.proofs.Reading.{w3-axiom-count, seven}
-use Rattle.worked_w1_w6.proofs.W1.{range1}
-use Rattle.worked_w1_w6.proofs.W3.{w3-asks, w5-asks}
-use Rattle.worked_w1_moves.proofs.Moves.{move1-asks}
+use Rattle.change_contract.specs.Lists.{edited}
+use Rattle.change_contract.specs.Edits.{Lent, lend, asked, Edits}
+use Rattle.change_contract.specs.declared.Changed.the-variants.{Done, Refused}
+use Rattle.change_contract.proofs.Asking.{refused-catalogue, refused-store}
+use Rattle.change_contract.proofs.Checks.{asked-by-axioms}
+use Rattle.change_contract.proofs.Outcomes.{ends-refused, ends-fresh}
+use Rattle.examples_w1_w6.specs.Stores.{w1Store, w3Store}
+use Rattle.examples_common.specs.Entries.{Changed}
+use Rattle.examples_w1_w6.specs.Table.{axioms1, axioms3}
+use Rattle.examples_w1_moves.specs.Table.{moved1}
+use Rattle.worked_examples.proofs.Worked.{worked}
+use Rattle.examples_common.proofs.Stores.{otherAxiom, otherExpression, otherByte, fresh-computed}
+use Rattle.examples_common.proofs.Editing.{listsAsked, asked-of-lists, changed-in-range, change-asked}
+use Rattle.examples_w1_w6.proofs.Reading.{w3-axiom-count, seven}
+use Rattle.examples_w1_w6.proofs.W1.{range1}
+use Rattle.examples_w1_w6.proofs.W3.{w3-asks, w5-asks}
+use Rattle.examples_w1_moves.proofs.Moves.{move1-asks}
 use Rattle.demands.specs.Sequences.{change, changed, outcomeOf, Turn, changes, RunsOn, nothing, first, Sequence, inForceAfter}
 use Rattle.demands.specs.GoingOn.{listed, rewritten, Reached}
 use Rattle.demands.proofs.AfterCalls.{changeTurn, change-runs, classifyTurn, classify-runs}
@@ -98,17 +98,17 @@ few3 : axiomCount w1 axioms3 ≤ 4096
 few3 = omega (arith, w3-axiom-count)
 
 -- Each accepted change of the list touches 0, 1, 4 and 5.
-module _ (gone new : List ℕ) (F : Axioms) (asks : listsAsked w1 gone new F ≡ accepted) (few : axiomCount w1 F ≤ 4096) (store : List ℕ) (fresh : Fresh w1 F store) where
-  accepted-asked : asked w1 gone new (lent store) ≡ accepted
+module _ (withdrawn added : List ℕ) (F : Axioms) (asks : listsAsked w1 withdrawn added F ≡ accepted) (few : axiomCount w1 F ≤ 4096) (store : List ℕ) (fresh : Fresh w1 F store) where
+  accepted-asked : asked w1 withdrawn added (lent store) ≡ accepted
   unfolding lent
   accepted-asked =
-      change-asked w1 gone new F asks (worked .W1-to-W6 .W1-accepted) few (lent store) fresh (omega (arith, w1-lengths .1)) (omega (arith, seven))
+      change-asked w1 withdrawn added F asks (worked .W1-to-W6 .W1-accepted) few (lent store) fresh (omega (arith, w1-lengths .1)) (omega (arith, seven))
 
-  accepted-edits : (x y z : ℕ) (broken gaining after : List ℕ) → Changed w1 F (edited F gone new) x y z broken gaining (0 ∷ 1 ∷ 4 ∷ 5 ∷ [])
-      → Fresh w1 (edited F gone new) after → drop 35 after ≡ drop 35 store → Edits w1 gone new (lent store) (Done x y z 4) (left after)
+  accepted-edits : (x y z : ℕ) (broken gaining after : List ℕ) → Changed w1 F (edited F withdrawn added) x y z broken gaining (0 ∷ 1 ∷ 4 ∷ 5 ∷ [])
+      → Fresh w1 (edited F withdrawn added) after → drop 35 after ≡ drop 35 store → Edits w1 withdrawn added (lent store) (Done x y z 4) (left after)
   unfolding lent left w1 word concepts roles width used workUsed zeroed withFront bytesOf
   accepted-edits x y z broken gaining after c fresh-after rest =
-      ends-fresh w1 gone new F (lent store) (0 ∷ 1 ∷ 4 ∷ 5 ∷ []) (Done x y z 4) (left after) fresh accepted-asked
+      ends-fresh w1 withdrawn added F (lent store) (0 ∷ 1 ∷ 4 ∷ 5 ∷ []) (Done x y z 4) (left after) fresh accepted-asked
       (record {
         answers = refl;
         effects =

@@ -23,9 +23,9 @@ use Rattle.writing.specs.declared.Wrote.the-variants.{Length}
 use Rattle.classification.specs.declared.Classified.the-variants.{Done}
 use Rattle.classification.specs.Classified.{classifyChecks, Classifies}
 use Rattle.classification.proofs.Checks.{all-accepted}
-use Rattle.worked_w1_w6.specs.Stores.{w1Store}
-use Rattle.worked_w1_w6.proofs.Reading.{w1-writes}
-use Rattle.worked.proofs.Worked.{worked}
+use Rattle.examples_w1_w6.specs.Stores.{w1Store}
+use Rattle.examples_w1_w6.proofs.Reading.{w1-writes}
+use Rattle.worked_examples.proofs.Worked.{worked}
 use Rattle.demands.specs.Afresh.{ClassifiesAlike}
 use Rattle.demands.specs.Sequences.{Turn, Sequence, inForceAfter}
 use Rattle.demands.specs.PublicCalls.{PublicCall, buffers, Returns}

@@ -16,7 +16,7 @@ use Rattle.store.specs.Checks.{storeFits, workFits, listFits, axiomsInLimit, as
 use Rattle.store.specs.Written.{axiomCount, written, SameRecords}
 use Rattle.store.proofs.SameRules.{used-same, range-same, fresh-same, fresh-written}
 use Rattle.store.proofs.Written.{written-same, written-well-formed, written-accepted}
-use Rattle.edits.specs.Questions.{Lengths, changeChecks, lengthChecks, contentChecks, axiomChecks, askRoom}
+use Rattle.change_contract.specs.Questions.{Lengths, changeChecks, lengthChecks, contentChecks, axiomChecks, askRoom}
 use Rattle.demands.specs.Sequences.{Call, questions, puts, afterCall, afterCalls}
 use Rattle.demands.specs.GoingOn.{Reached, listed, further, rewritten, under, IsChange, GoingOn}
 use Rattle.demands.proofs.FreshStores.{FreshStore}
@@ -31,21 +31,21 @@ module _ (b w : List ℕ) (m : SameRecords b w) where
   count-same F = rw (m .concepts-same)
 
   -- A change is asked the same.
-  rest-same : (gone new : List ℕ) (lent : Lengths) (F : Axioms)
-      → lengthChecks w (length gone) (length new) lent (contentChecks w gone new true true F)
-      ≡ lengthChecks b (length gone) (length new) lent (contentChecks b gone new true true F)
+  rest-same : (withdrawn added : List ℕ) (lent : Lengths) (F : Axioms)
+      → lengthChecks w (length withdrawn) (length added) lent (contentChecks w withdrawn added true true F)
+      ≡ lengthChecks b (length withdrawn) (length added) lent (contentChecks b withdrawn added true true F)
   unfolding lengthChecks contentChecks axiomChecks askStore askWork askList askNumbers askRoom storeFits workFits listFits axiomsInLimit axiomCount
-  rest-same gone new lent F = rw (used-same b w m, work-same b w m, m .concepts-same)
+  rest-same withdrawn added lent F = rw (used-same b w m, work-same b w m, m .concepts-same)
 
   module _ (ok : checked b ≡ accepted) (ok' : checked w ≡ accepted) where
-    asked-same : (gone new : List ℕ) (lent : Lengths) (F : Axioms) → changeChecks w gone new lent true true F ≡ changeChecks b gone new lent true true F
+    asked-same : (withdrawn added : List ℕ) (lent : Lengths) (F : Axioms) → changeChecks w withdrawn added lent true true F ≡ changeChecks b withdrawn added lent true true F
     unfolding changeChecks
-    asked-same gone new lent F = after-accepted w _ ok' ∙ rest-same gone new lent F ∙ sym (after-accepted b _ ok)
+    asked-same withdrawn added lent F = after-accepted w _ ok' ∙ rest-same withdrawn added lent F ∙ sym (after-accepted b _ ok)
 
     call-same : (F : Axioms) (c : Call) → IsChange c → afterCall w F (under w c) ≡ afterCall b F (under b c)
     unfolding afterCall questions puts
-    call-same F c (gone, new, q) =
-        rw (expected-same w F (under w c) refl, expected-same b F (under b c) refl, q, asked-same gone new (c .lent) F)
+    call-same F c (withdrawn, added, q) =
+        rw (expected-same w F (under w c) refl, expected-same b F (under b c) refl, q, asked-same withdrawn added (c .lent) F)
 
     calls-same : (F : Axioms) (cs : List Call) → ((c : Call) → List·Memᴰ c cs → IsChange c) → afterCalls w F (map (under w) cs) ≡ afterCalls b F (map (under b) cs)
     unfolding afterCalls

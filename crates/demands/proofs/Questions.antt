@@ -28,13 +28,13 @@ use Rattle.store.specs.Checks.{every, storeFits, workFits, listFits, axiomsInLi
 use Rattle.store.specs.Checks.{askStore, askWork, askList, askSpare, askLimit, askNumbers}
 use Rattle.store.specs.Written.{axiomCount, written}
 use Rattle.classification.specs.Classified.{classifyChecks}
-use Rattle.edits.specs.Lists.{axiomsIn, leftIn, rightIn, sidesIn, edited}
-use Rattle.edits.specs.Questions.{isWhole, repeats, noneTwice, allInForce, noneInForce, askWhole, askTwice, askInForce, askNew, askRoom}
-use Rattle.edits.specs.Questions.{lengthChecks, axiomChecks, contentChecks as changeContent, changeChecks}
-use Rattle.edits.specs.Edits.{asked}
-use Rattle.edits.proofs.Lists.{among-exact, whole-long, in-force-at, new-at}
+use Rattle.change_contract.specs.Lists.{axiomsIn, leftIn, rightIn, sidesIn, edited}
+use Rattle.change_contract.specs.Questions.{isWhole, repeats, noneTwice, allInForce, noneInForce, askWhole, askTwice, askInForce, askNew, askRoom}
+use Rattle.change_contract.specs.Questions.{lengthChecks, axiomChecks, contentChecks as changeContent, changeChecks}
+use Rattle.change_contract.specs.Edits.{asked}
+use Rattle.change_contract.proofs.Lists.{among-exact, whole-long, in-force-at, new-at}
 use Rattle.writing.specs.Write.{outputFits, storeChecks, writeChecks}
-use Rattle.reading.specs.Checks.{askOccurs, openChecks, contentChecks, readChecks, listChecks}
+use Rattle.read_checks.specs.Checks.{askOccurs, openChecks, contentChecks, readChecks, listChecks}
 use Rattle.demands.specs.PublicCalls.{PublicCall, check, classify, change, listing, write, Buffers, lentOf, takes}
 use Rattle.demands.specs.DemandOne.{Fault, damagedCatalogue, shortStore, shortWork, shortList, shortOutput, notWhole, twice, strayBit, outOfRange}
 use Rattle.demands.specs.DemandOne.{addedTwice, notInForce, tooManyAxioms, noRoom, unused, NotWhole, Wrong, refusal, readFaults, faults, ByFirst, none, here, later}
@@ -59,10 +59,10 @@ not-whole list e =
     by-bool (leb (length list) 256) (λ t. inr (λ z. not-both (and-both (leb (length list) 256) (eqb (length list % 4) 0) t (eq-eqb (length list % 4) 0 z)) e))
     (λ f. inl (leb-false (length list) 256 f))
 
-one-not-whole : (gone new : List ℕ) → (isWhole (length gone) && isWhole (length new)) ≡ false → NotWhole gone ⊎ NotWhole new
-one-not-whole gone new e =
-    by-bool (isWhole (length gone)) (λ t. inr (not-whole new (not-true-false _ (λ s. not-both (and-both (isWhole (length gone)) (isWhole (length new)) t s) e))))
-    (λ f. inl (not-whole gone f))
+one-not-whole : (withdrawn added : List ℕ) → (isWhole (length withdrawn) && isWhole (length added)) ≡ false → NotWhole withdrawn ⊎ NotWhole added
+one-not-whole withdrawn added e =
+    by-bool (isWhole (length withdrawn)) (λ t. inr (not-whole added (not-true-false _ (λ s. not-both (and-both (isWhole (length withdrawn)) (isWhole (length added)) t s) e))))
+    (λ f. inl (not-whole withdrawn f))
 
 whole : (list : List ℕ) → isWhole (length list) ≡ true → ¬ (NotWhole list)
 whole list e n = let (short, parts) = whole-long (length list) e in ⊎-elim (λ l. omega arith) (λ z. z parts) n
@@ -128,13 +128,13 @@ module _ (b : List ℕ) (u : Buffers) where
         (λ e (c, m, l). let p : c < concepts b = ltb-true c (concepts b) (each-true below names e c m) in omega arith)
         (λ _. more)
 
-    whole-asked : (gone new : List ℕ) → ByFirst b u fs rest → ByFirst b u (notWhole gone new ∷ fs) (askWhole (length gone) (length new) rest)
+    whole-asked : (withdrawn added : List ℕ) → ByFirst b u fs rest → ByFirst b u (notWhole withdrawn added ∷ fs) (askWhole (length withdrawn) (length added) rest)
     unfolding askWhole
-    whole-asked gone new more =
-        let first = isWhole (length gone) in
-        let second = isWhole (length new) in
-        step (notWhole gone new) (first && second) 22 refl (one-not-whole gone new)
-        (λ e n. ⊎-elim (whole gone (and-left first second e)) (whole new (and-right first second e)) n)
+    whole-asked withdrawn added more =
+        let first = isWhole (length withdrawn) in
+        let second = isWhole (length added) in
+        step (notWhole withdrawn added) (first && second) 22 refl (one-not-whole withdrawn added)
+        (λ e n. ⊎-elim (whole withdrawn (and-left first second e)) (whole added (and-right first second e)) n)
         (λ _. more)
 
     twice-asked : (list : List ℕ) → ByFirst b u fs rest → ByFirst b u (twice list ∷ fs) (askTwice list rest)
@@ -149,28 +149,28 @@ module _ (b : List ℕ) (u : Buffers) where
         not-both (among-exact list k (leftIn list k) (rightIn list k) .1 (j, lj, x, y)) (none-below (repeats list) (axiomsIn list) k (not-true _ e) lk))
         (λ _. more)
 
-    in-force-asked : (gone : List ℕ) → ByFirst b u fs rest → ByFirst b u (notInForce gone ∷ fs) (askInForce (inForce b (u .store)) gone rest)
+    in-force-asked : (withdrawn : List ℕ) → ByFirst b u fs rest → ByFirst b u (notInForce withdrawn ∷ fs) (askInForce (inForce b (u .store)) withdrawn rest)
     unfolding askInForce allInForce
-    in-force-asked gone more =
+    in-force-asked withdrawn more =
         let F : Axioms = inForce b (u .store) in
-        step (notInForce gone) (allInForce F gone) 18 refl
-        (λ e. let (k, l, t) = some-which (λ k. not (F (leftIn gone k) (rightIn gone k))) (axiomsIn gone) (not-false _ e) in (k, l, not-true _ t))
-        (λ e (k, l, n). not-both (in-force-at F gone e k l) n)
+        step (notInForce withdrawn) (allInForce F withdrawn) 18 refl
+        (λ e. let (k, l, t) = some-which (λ k. not (F (leftIn withdrawn k) (rightIn withdrawn k))) (axiomsIn withdrawn) (not-false _ e) in (k, l, not-true _ t))
+        (λ e (k, l, n). not-both (in-force-at F withdrawn e k l) n)
         (λ _. more)
 
-    new-asked : (new : List ℕ) → ByFirst b u fs rest → ByFirst b u (addedTwice new ∷ fs) (askNew (inForce b (u .store)) new rest)
+    new-asked : (added : List ℕ) → ByFirst b u fs rest → ByFirst b u (addedTwice added ∷ fs) (askNew (inForce b (u .store)) added rest)
     unfolding askNew noneInForce
-    new-asked new more =
+    new-asked added more =
         let F : Axioms = inForce b (u .store) in
-        step (addedTwice new) (noneInForce F new) 16 refl
-        (λ e. some-which (λ k. F (leftIn new k) (rightIn new k)) (axiomsIn new) (not-false _ e))
-        (λ e (k, l, t). not-both t (new-at F new e k l))
+        step (addedTwice added) (noneInForce F added) 16 refl
+        (λ e. some-which (λ k. F (leftIn added k) (rightIn added k)) (axiomsIn added) (not-false _ e))
+        (λ e (k, l, t). not-both t (new-at F added e k l))
         (λ _. more)
 
-    room-asked : (gone new : List ℕ) → ByFirst b u fs rest → ByFirst b u (noRoom gone new ∷ fs) (askRoom b (edited (inForce b (u .store)) gone new) rest)
+    room-asked : (withdrawn added : List ℕ) → ByFirst b u fs rest → ByFirst b u (noRoom withdrawn added ∷ fs) (askRoom b (edited (inForce b (u .store)) withdrawn added) rest)
     unfolding askRoom axiomsInLimit
-    room-asked gone new more =
-        step (noRoom gone new) (leb (axiomCount b (edited (inForce b (u .store)) gone new)) 4096) 17 refl (leb-false _ _) (not-short _ _) (λ _. more)
+    room-asked withdrawn added more =
+        step (noRoom withdrawn added) (leb (axiomCount b (edited (inForce b (u .store)) withdrawn added)) 4096) 17 refl (leb-false _ _) (not-short _ _) (λ _. more)
 
     output-asked : ByFirst b u fs rest → ByFirst b u (shortOutput ∷ fs) (ask (outputFits b (u .store) (length (u .output))) 20 0 rest)
     unfolding outputFits
@@ -199,12 +199,12 @@ module _ (b : List ℕ) (u : Buffers) where
   unfolding classifyChecks
   classify-asked = ask-catalogue _ (λ _. store-asked _ (λ _. work-asked _ classify refl none))
 
-  pub change-asked : (gone new : List ℕ) → ByFirst b u (faults (change gone new)) (asked b gone new (lentOf u))
+  pub change-asked : (withdrawn added : List ℕ) → ByFirst b u (faults (change withdrawn added)) (asked b withdrawn added (lentOf u))
   unfolding asked changeChecks lengthChecks changeContent axiomChecks
-  change-asked gone new =
-      let axioms = in-force-asked _ gone (new-asked _ new (room-asked _ gone new none)) in
-      let content = twice-asked _ (gone ++ new) (spare-asked _ (λ _. limit-asked _ (numbers-asked _ (sidesIn (gone ++ new)) axioms))) in
-      ask-catalogue _ (λ _. store-asked _ (λ _. work-asked _ (change gone new) refl (list-asked _ (whole-asked _ gone new content))))
+  change-asked withdrawn added =
+      let axioms = in-force-asked _ withdrawn (new-asked _ added (room-asked _ withdrawn added none)) in
+      let content = twice-asked _ (withdrawn ++ added) (spare-asked _ (λ _. limit-asked _ (numbers-asked _ (sidesIn (withdrawn ++ added)) axioms))) in
+      ask-catalogue _ (λ _. store-asked _ (λ _. work-asked _ (change withdrawn added) refl (list-asked _ (whole-asked _ withdrawn added content))))
 
   content-asked : WellFormed b → (names : List ℕ) → ByFirst b u (readFaults names) (contentChecks b names (u .store))
   unfolding contentChecks

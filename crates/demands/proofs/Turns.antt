@@ -20,15 +20,15 @@ use Rattle.classification.specs.Classified.{classifyChecks, Classifies}
 use Rattle.classification.specs.declared.Classified.{Classified}
 use Rattle.classification.proofs.Checks.{accepted-fits}
 use Rattle.classification.proofs.Outcomes.{answer-outcome}
-use Rattle.edits.specs.Lists.{edited}
-use Rattle.edits.specs.Questions.{Lengths, changeChecks}
-use Rattle.edits.specs.Edits.{Lent, lend, lengths, asked as askedOf, Edits}
-use Rattle.edits.specs.declared.Changed.{Changed}
-use Rattle.edits.proofs.Asking.{refused-store}
-use Rattle.edits.proofs.Checks.{Accepted, edit-accepted, asked-by-axioms}
-use Rattle.edits.proofs.Outcomes.{answer-outcome as change-answer}
-use Rattle.edits.proofs.Fresh.{edit-fresh, edit-effects}
-use Rattle.edits.proofs.Kept.{pair-row-kept, link-row-kept}
+use Rattle.change_contract.specs.Lists.{edited}
+use Rattle.change_contract.specs.Questions.{Lengths, changeChecks}
+use Rattle.change_contract.specs.Edits.{Lent, lend, lengths, asked as askedOf, Edits}
+use Rattle.change_contract.specs.declared.Changed.{Changed}
+use Rattle.change_contract.proofs.Asking.{refused-store}
+use Rattle.change_contract.proofs.Checks.{Accepted, edit-accepted, asked-by-axioms}
+use Rattle.change_contract.proofs.Outcomes.{answer-outcome as change-answer}
+use Rattle.change_contract.proofs.Fresh.{edit-fresh, edit-effects}
+use Rattle.change_contract.proofs.Kept.{pair-row-kept, link-row-kept}
 use Rattle.demands.specs.Sequences.{Request, classify, change, Answer, classified, changed, outcomeOf, Turn, Meets, classifies, changes, lentTo, RunsOn, questions, puts, Changes}
 use Rattle.demands.proofs.FreshStores.{FreshStore, classify-leaves, fresh-append, fresh-front}
 
@@ -94,8 +94,8 @@ pub record Known (b : List ℕ) (F : ℕ → ℕ → Bool) (store : List ℕ) (t
   pub keeps : (number at : ℕ) → outcomeOf (t .answer) ≡ refused number at → t .store-after ≡ store
   pub rest : t .call .catalogue ≡ b → outcomeOf (t .answer) ≡ accepted → drop (used b) (t .store-after) ≡ drop (used b) store
   pub leaves : t .call .catalogue ≡ b → outcomeOf (t .answer) ≡ accepted → FreshStore b (puts (t .call .request) b F) (t .store-after)
-  pub changes : t .call .catalogue ≡ b → outcomeOf (t .answer) ≡ accepted → (gone new : List ℕ) → t .call .request ≡ change gone new
-      → Changes b F (edited F gone new) store t
+  pub changes : t .call .catalogue ≡ b → outcomeOf (t .answer) ≡ accepted → (withdrawn added : List ℕ) → t .call .request ≡ change withdrawn added
+      → Changes b F (edited F withdrawn added) store t
 
 -- ---- classify
 
@@ -129,77 +129,77 @@ module _ (b : List ℕ) (F : Axioms) (store : List ℕ) (t : Turn) (x : RunsOn s
             let left : FreshStore b (catalogueAxioms b) (x .part-after) = classify-leaves b (lentTo t store .store) (t .work) a (x .part-after) (t .work-after) (with-b e) ok in
             subst (λ (q : Request). FreshStore b (puts q b F) (t .store-after)) (sym request)
             (fresh-left b store t x e (accepted-fits b _ _ ok .store-long) (catalogueAxioms b) left);
-        changes = λ e o gone new q. let z : _≡_ {A = ℕ} 0 1 = cc in absurd (omega arith);
+        changes = λ e o withdrawn added q. let z : _≡_ {A = ℕ} 0 1 = cc in absurd (omega arith);
       }
 
 -- ---- change
 
 -- On a part of a fresh store a change asks what it asks by arguments alone: one that is too short is refused by 10, and a longer one is fresh.
-part-asked : (b : List ℕ) (F : Axioms) (store : List ℕ) → FreshStore b F store → (t : Turn) → RunsOn store t → t .call .catalogue ≡ b → (gone new : List ℕ)
-    → askedOf b gone new (lentTo t store) ≡ changeChecks b gone new (t .call .lent) true true F
+part-asked : (b : List ℕ) (F : Axioms) (store : List ℕ) → FreshStore b F store → (t : Turn) → RunsOn store t → t .call .catalogue ≡ b → (withdrawn added : List ℕ)
+    → askedOf b withdrawn added (lentTo t store) ≡ changeChecks b withdrawn added (t .call .lent) true true F
 unfolding askedOf
-part-asked b F store u t x same gone new =
+part-asked b F store u t x same withdrawn added =
     let part = lentTo t store .store in
     let lent = lengths (lentTo t store) in
     by-bool (storeFits b (length part))
-    (λ e. asked-by-axioms b F gone new (lentTo t store) (fresh-lent b store t x same (store-long b _ e) F u) (u .few))
+    (λ e. asked-by-axioms b F withdrawn added (lentTo t store) (fresh-lent b store t x same (store-long b _ e) F u) (u .few))
     (λ e.
-    refused-store b gone new lent (spareClear b part) (axiomsInLimit b (inForce b part)) (inForce b part) (u .catalogue) e
-    ∙ sym (refused-store b gone new lent true true F (u .catalogue) e))
-    ∙ ap (λ (q : Lengths). changeChecks b gone new q true true F) (x .lent-is)
+    refused-store b withdrawn added lent (spareClear b part) (axiomsInLimit b (inForce b part)) (inForce b part) (u .catalogue) e
+    ∙ sym (refused-store b withdrawn added lent true true F (u .catalogue) e))
+    ∙ ap (λ (q : Lengths). changeChecks b withdrawn added q true true F) (x .lent-is)
 
-module _ (b : List ℕ) (F : Axioms) (store : List ℕ) (u : FreshStore b F store) (t : Turn) (x : RunsOn store t) (gone new : List ℕ) (a : Changed)
-    (request : t .call .request ≡ change gone new) (answer : t .answer ≡ changed a)
-    (call : Edits (t .call .catalogue) gone new (lentTo t store) a (lend (x .part-after) (t .work-after) (t .list-after))) where
+module _ (b : List ℕ) (F : Axioms) (store : List ℕ) (u : FreshStore b F store) (t : Turn) (x : RunsOn store t) (withdrawn added : List ℕ) (a : Changed)
+    (request : t .call .request ≡ change withdrawn added) (answer : t .answer ≡ changed a)
+    (call : Edits (t .call .catalogue) withdrawn added (lentTo t store) a (lend (x .part-after) (t .work-after) (t .list-after))) where
   abbrev left : Lent
   left = lend (x .part-after) (t .work-after) (t .list-after)
 
-  change-answers : outcomeOf (t .answer) ≡ askedOf (t .call .catalogue) gone new (lentTo t store)
-  change-answers = ap outcomeOf answer ∙ change-answer (t .call .catalogue) gone new (lentTo t store) a left call
+  change-answers : outcomeOf (t .answer) ≡ askedOf (t .call .catalogue) withdrawn added (lentTo t store)
+  change-answers = ap outcomeOf answer ∙ change-answer (t .call .catalogue) withdrawn added (lentTo t store) a left call
 
   -- With catalogue b.
   module _ (same : t .call .catalogue ≡ b) where
-    with-b : Edits b gone new (lentTo t store) a left
-    with-b = subst (λ (c : List ℕ). Edits c gone new (lentTo t store) a left) same call
+    with-b : Edits b withdrawn added (lentTo t store) a left
+    with-b = subst (λ (c : List ℕ). Edits c withdrawn added (lentTo t store) a left) same call
 
-    asked-b : outcomeOf (t .answer) ≡ askedOf b gone new (lentTo t store)
-    asked-b = change-answers ∙ ap (λ (c : List ℕ). askedOf c gone new (lentTo t store)) same
+    asked-b : outcomeOf (t .answer) ≡ askedOf b withdrawn added (lentTo t store)
+    asked-b = change-answers ∙ ap (λ (c : List ℕ). askedOf c withdrawn added (lentTo t store)) same
 
-    by-arguments : outcomeOf (t .answer) ≡ changeChecks b gone new (t .call .lent) true true F
-    by-arguments = asked-b ∙ part-asked b F store u t x same gone new
+    by-arguments : outcomeOf (t .answer) ≡ changeChecks b withdrawn added (t .call .lent) true true F
+    by-arguments = asked-b ∙ part-asked b F store u t x same withdrawn added
 
     module _ (o : outcomeOf (t .answer) ≡ accepted) where
-      ok : askedOf b gone new (lentTo t store) ≡ accepted
+      ok : askedOf b withdrawn added (lentTo t store) ≡ accepted
       ok = sym asked-b ∙ o
 
-      passed : Accepted b gone new (lentTo t store)
-      passed = edit-accepted b gone new (lentTo t store) ok
+      passed : Accepted b withdrawn added (lentTo t store)
+      passed = edit-accepted b withdrawn added (lentTo t store) ok
 
       part-fresh : Fresh b F (lentTo t store .store)
       part-fresh = fresh-lent b store t x same (passed .store-fits) F u
 
-      change-leaves : FreshStore b (edited F gone new) (t .store-after)
+      change-leaves : FreshStore b (edited F withdrawn added) (t .store-after)
       change-leaves =
           let own : inForce b (lentTo t store .store) ≡ F = marked-axioms b F (lentTo t store .store) part-fresh in
-          fresh-left b store t x same (passed .store-fits) (edited F gone new)
+          fresh-left b store t x same (passed .store-fits) (edited F withdrawn added)
           (record {
             catalogue = u .catalogue;
             well-formed = u .well-formed;
-            range = subst (λ (E : Axioms). InRange b (edited E gone new)) own (passed .after-range);
-            few = subst (λ (E : Axioms). axiomCount b (edited E gone new) ≤ 4096) own (passed .after-few);
-            fresh = edit-fresh b gone new (lentTo t store) a left with-b ok F part-fresh;
+            range = subst (λ (E : Axioms). InRange b (edited E withdrawn added)) own (passed .after-range);
+            few = subst (λ (E : Axioms). axiomCount b (edited E withdrawn added) ≤ 4096) own (passed .after-few);
+            fresh = edit-fresh b withdrawn added (lentTo t store) a left with-b ok F part-fresh;
           })
 
-      change-effects : Changes b F (edited F gone new) store t
+      change-effects : Changes b F (edited F withdrawn added) store t
       change-effects =
-          let G = edited F gone new in
+          let G = edited F withdrawn added in
           let range = change-leaves .range in
           let after = change-leaves .fresh in
           record {
             answer = a;
             names = with-b .accepts ok .names;
             answer-is = answer;
-            effects = edit-effects b gone new (lentTo t store) a left with-b ok F part-fresh;
+            effects = edit-effects b withdrawn added (lentTo t store) a left with-b ok F part-fresh;
             list-is = with-b .accepts ok .list-is;
             others = λ c lc out.
                 record {
@@ -217,9 +217,9 @@ module _ (b : List ℕ) (F : Axioms) (store : List ℕ) (u : FreshStore b F stor
             x .store-is ∙ whole store (x .part-after) (t .call .from) (t .call .lent .store) (call .refuses number at (sym change-answers ∙ o) .store-kept);
         rest = λ e o. rest-left b store t x e (passed e o .store-fits) (with-b e .accepts (ok e o) .marked .long) (with-b e .accepts (ok e o) .store-rest);
         leaves = λ e o. subst (λ (q : Request). FreshStore b (puts q b F) (t .store-after)) (sym request) (change-leaves e o);
-        changes = λ e o gone' new' q.
-            let eg : gone ≡ gone' = cc in
-            let en : new ≡ new' = cc in
+        changes = λ e o withdrawn' added' q.
+            let eg : withdrawn ≡ withdrawn' = cc in
+            let en : added ≡ added' = cc in
             subst₂ (λ (g n : List ℕ). Changes b F (edited F g n) store t) eg en (change-effects e o);
       }
 
@@ -232,7 +232,7 @@ classify-turn b F store t x request = go (t .call .request) (t .answer) (x .cont
     go : (q : Request) (y : Answer) → Meets (t .call .catalogue) (lentTo t store) (lend (x .part-after) (t .work-after) (t .list-after)) q y → q ≡ classify → t .answer ≡ y
         → Known b F store t
     go classify (classified a) (classifies c) e f = classify-known b F store t x a request f c
-    go (change gone new) (changed a) (changes c) e f = let z : _≡_ {A = ℕ} 0 1 = cc in absurd (omega arith)
+    go (change withdrawn added) (changed a) (changes c) e f = let z : _≡_ {A = ℕ} 0 1 = cc in absurd (omega arith)
 
 pub any-turn : (b : List ℕ) (F : Axioms) (store : List ℕ) → FreshStore b F store → (t : Turn) → RunsOn store t → Known b F store t
 any-turn b F store u t x = go (t .call .request) (t .answer) (x .contract) refl refl
@@ -240,4 +240,4 @@ any-turn b F store u t x = go (t .call .request) (t .answer) (x .contract) refl 
     go : (q : Request) (y : Answer) → Meets (t .call .catalogue) (lentTo t store) (lend (x .part-after) (t .work-after) (t .list-after)) q y → t .call .request ≡ q → t .answer ≡ y
         → Known b F store t
     go classify (classified a) (classifies c) e f = classify-known b F store t x a e f c
-    go (change gone new) (changed a) (changes c) e f = change-known b F store u t x gone new a e f c
+    go (change withdrawn added) (changed a) (changes c) e f = change-known b F store u t x withdrawn added a e f c

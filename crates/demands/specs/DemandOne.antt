@@ -15,7 +15,7 @@ use Rattle.rules.specs.Occurrence.{Occurs}
 use Rattle.layout.specs.Parts.{width, used, inForce, rowCount}
 use Rattle.store.specs.Work.{workAfter}
 use Rattle.store.specs.Written.{axiomCount, written}
-use Rattle.edits.specs.Lists.{axiomsIn, leftIn, rightIn, sidesIn, edited}
+use Rattle.change_contract.specs.Lists.{axiomsIn, leftIn, rightIn, sidesIn, edited}
 use Rattle.lookups.specs.Listings.{Lists}
 use Rattle.meaning.specs.Meaning.{KindUnder}
 use Rattle.lookups.specs.declared.kinds.Listed.the-variants.{Count}
@@ -31,14 +31,14 @@ pub data Fault : Type 0 where
   shortWork : (c : PublicCall) → Fault
   shortList : Fault
   shortOutput : Fault
-  notWhole : (gone new : List ℕ) → Fault
+  notWhole : (withdrawn added : List ℕ) → Fault
   twice : (list : List ℕ) → Fault
   strayBit : Fault
   outOfRange : (names : List ℕ) → Fault
-  addedTwice : (new : List ℕ) → Fault
-  notInForce : (gone : List ℕ) → Fault
+  addedTwice : (added : List ℕ) → Fault
+  notInForce : (withdrawn : List ℕ) → Fault
   tooManyAxioms : Fault
-  noRoom : (gone new : List ℕ) → Fault
+  noRoom : (withdrawn added : List ℕ) → Fault
   unused : (names : List ℕ) → Fault
 
 -- A list of more than 64 axioms, or not of whole ones.
@@ -52,16 +52,16 @@ Wrong b u shortStore = length (u .store) < used b
 Wrong b u (shortWork c) = length (u .work) < share b c .taken
 Wrong b u shortList = length (u .list) < 2 * concepts b
 Wrong b u shortOutput = length (u .output) < length (written b (inForce b (u .store)))
-Wrong b u (notWhole gone new) = NotWhole gone ⊎ NotWhole new
+Wrong b u (notWhole withdrawn added) = NotWhole withdrawn ⊎ NotWhole added
 Wrong b u (twice list) =
     (j : ℕ) × (k : ℕ) × (j < k) × (k < axiomsIn list) × (leftIn list j ≡ leftIn list k) × (rightIn list j ≡ rightIn list k)
 Wrong b u strayBit =
     (r : ℕ) × (i : ℕ) × (r < rowCount b) × (concepts b ≤ i) × (i < 8 * width b) × (bit (u .store) (place (width b) r i) ≡ true)
 Wrong b u (outOfRange names) = (c : ℕ) × List·Memᴰ c names × (concepts b ≤ c)
-Wrong b u (addedTwice new) = (k : ℕ) × (k < axiomsIn new) × (inForce b (u .store) (leftIn new k) (rightIn new k) ≡ true)
-Wrong b u (notInForce gone) = (k : ℕ) × (k < axiomsIn gone) × (inForce b (u .store) (leftIn gone k) (rightIn gone k) ≡ false)
+Wrong b u (addedTwice added) = (k : ℕ) × (k < axiomsIn added) × (inForce b (u .store) (leftIn added k) (rightIn added k) ≡ true)
+Wrong b u (notInForce withdrawn) = (k : ℕ) × (k < axiomsIn withdrawn) × (inForce b (u .store) (leftIn withdrawn k) (rightIn withdrawn k) ≡ false)
 Wrong b u tooManyAxioms = 4096 < axiomCount b (inForce b (u .store))
-Wrong b u (noRoom gone new) = 4096 < axiomCount b (edited (inForce b (u .store)) gone new)
+Wrong b u (noRoom withdrawn added) = 4096 < axiomCount b (edited (inForce b (u .store)) withdrawn added)
 Wrong b u (unused names) = (c : ℕ) × List·Memᴰ c names × ¬ (Occurs b (inForce b (u .store)) c)
 
 -- "Each has its number": that of its question in documents 01 and 02. A damaged catalogue has that of one of the catalogue's
@@ -72,14 +72,14 @@ refusal b shortStore = refused 10 0
 refusal b (shortWork c) = refused 11 0
 refusal b shortList = refused 12 0
 refusal b shortOutput = refused 20 0
-refusal b (notWhole gone new) = refused 22 0
+refusal b (notWhole withdrawn added) = refused 22 0
 refusal b (twice list) = refused 23 0
 refusal b strayBit = refused 13 0
 refusal b (outOfRange names) = refused 15 0
-refusal b (addedTwice new) = refused 16 0
-refusal b (notInForce gone) = refused 18 0
+refusal b (addedTwice added) = refused 16 0
+refusal b (notInForce withdrawn) = refused 18 0
 refusal b tooManyAxioms = refused 14 0
-refusal b (noRoom gone new) = refused 17 0
+refusal b (noRoom withdrawn added) = refused 17 0
 refusal b (unused names) = refused 19 0
 
 -- What a call can be refused for, in the order in which it asks (document 01, Questions; document 02, request Four).
@@ -89,9 +89,9 @@ readFaults names = strayBit ∷ tooManyAxioms ∷ outOfRange names ∷ unused na
 abbrev pub faults : PublicCall → List Fault
 faults check = damagedCatalogue ∷ []
 faults classify = damagedCatalogue ∷ shortStore ∷ shortWork classify ∷ []
-faults (change gone new) =
-    damagedCatalogue ∷ shortStore ∷ shortWork (change gone new) ∷ shortList ∷ notWhole gone new ∷ twice (gone ++ new) ∷ strayBit ∷ tooManyAxioms
-    ∷ outOfRange (sidesIn (gone ++ new)) ∷ notInForce gone ∷ addedTwice new ∷ noRoom gone new ∷ []
+faults (change withdrawn added) =
+    damagedCatalogue ∷ shortStore ∷ shortWork (change withdrawn added) ∷ shortList ∷ notWhole withdrawn added ∷ twice (withdrawn ++ added) ∷ strayBit ∷ tooManyAxioms
+    ∷ outOfRange (sidesIn (withdrawn ++ added)) ∷ notInForce withdrawn ∷ addedTwice added ∷ noRoom withdrawn added ∷ []
 faults (lookup c d) = damagedCatalogue ∷ shortStore ∷ readFaults (c ∷ d ∷ [])
 faults (listing d) = damagedCatalogue ∷ shortStore ∷ shortList ∷ readFaults (d ∷ [])
 faults (row c) = damagedCatalogue ∷ shortStore ∷ readFaults (c ∷ [])

@@ -28,7 +28,7 @@ under b c = record { request = c .request; catalogue = b; lent = c .lent; from =
 
 -- A change, and no classify, which starts over from its own catalogue's axioms.
 abbrev pub IsChange : Call → Type 0
-IsChange c = (gone : List ℕ) × (new : List ℕ) × (c .request ≡ change gone new)
+IsChange c = (withdrawn : List ℕ) × (added : List ℕ) × (c .request ≡ change withdrawn added)
 
 -- What demand 3 says of a list holds of all that is reached.
 pub record AsOneList (b : List ℕ) (F : ℕ → ℕ → Bool) (store : List ℕ) : Type 0 where

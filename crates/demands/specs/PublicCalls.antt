@@ -10,13 +10,13 @@ use Rattle.layout.specs.Parts.{workUsed}
 use Rattle.store.specs.Work.{atNone}
 use Rattle.classification.specs.Classified.{Classifies, outcomeOf as classifyOutcome}
 use Rattle.classification.specs.declared.Classified.{Classified}
-use Rattle.edits.specs.Answers.{outcomeOf as changeOutcome}
-use Rattle.edits.specs.Edits.{Lent, lend, Edits}
-use Rattle.edits.specs.declared.Changed.{Changed}
+use Rattle.change_contract.specs.Answers.{outcomeOf as changeOutcome}
+use Rattle.change_contract.specs.Edits.{Lent, lend, Edits}
+use Rattle.change_contract.specs.declared.Changed.{Changed}
 use Rattle.writing.specs.Write.{Writes, outcomeOf as writeOutcome}
 use Rattle.writing.specs.declared.Wrote.{Wrote}
-use Rattle.sizing.specs.Sizes.{Measures, outcomeOf as checkOutcome}
-use Rattle.sizing.specs.declared.Sizes.{Sizes}
+use Rattle.buffer_sizes.specs.Sizes.{Measures, outcomeOf as checkOutcome}
+use Rattle.buffer_sizes.specs.declared.Sizes.{Sizes}
 use Rattle.lookups.specs.Answers.{lookedUp, lookupOutcome}
 use Rattle.lookups.specs.Listings.{Lists, listOutcome}
 use Rattle.row_parts.specs.Rows.{rowAnswer, HandsOut, rowOutcome}
@@ -24,12 +24,12 @@ use Rattle.lookups.specs.declared.pairs.Looked.{Looked}
 use Rattle.lookups.specs.declared.kinds.Listed.{Listed}
 use Rattle.row_parts.specs.declared.Handed.{Handed}
 
--- Check the catalogue, and say what it asks for; classify; withdraw the axioms of `gone` and add those of `new`; look up (c, d); list the atomic kinds under
+-- Check the catalogue, and say what it asks for; classify; withdraw the axioms of `withdrawn` and add those of `added`; look up (c, d); list the atomic kinds under
 -- d; hand out the row of c; write the current catalogue.
 pub data PublicCall : Type 0 where
   check : PublicCall
   classify : PublicCall
-  change : (gone new : List ℕ) → PublicCall
+  change : (withdrawn added : List ℕ) → PublicCall
   lookup : (c d : ℕ) → PublicCall
   listing : (d : ℕ) → PublicCall
   row : (c : ℕ) → PublicCall
@@ -59,7 +59,7 @@ pub record Share : Type 0 where
 abbrev pub takes : List ℕ → PublicCall → ℕ
 takes b check = 0
 takes b classify = workUsed b
-takes b (change gone new) = workUsed b
+takes b (change withdrawn added) = workUsed b
 takes b (lookup c d) = 0
 takes b (listing d) = 0
 takes b (row c) = 0
@@ -77,8 +77,8 @@ pub data Returns (b : List ℕ) (u : Buffers) : PublicCall → Outcome → Buffe
   measures : {a : Sizes} → Measures b a → Returns b u check (checkOutcome a) u
   classifies : {a : Classified} {store work : List ℕ} → Classifies b (u .store) (u .work) a store work
       → Returns b u classify (classifyOutcome a) (buffers store work (u .list) (u .output))
-  changes : {gone new : List ℕ} {a : Changed} {v : Lent} → Edits b gone new (lentOf u) a v
-      → Returns b u (change gone new) (changeOutcome a) (buffers (v .store) (v .work) (v .list) (u .output))
+  changes : {withdrawn added : List ℕ} {a : Changed} {v : Lent} → Edits b withdrawn added (lentOf u) a v
+      → Returns b u (change withdrawn added) (changeOutcome a) (buffers (v .store) (v .work) (v .list) (u .output))
   looks-up : {c d : ℕ} {a : Looked} → a ≡ lookedUp b c d (u .store) → Returns b u (lookup c d) (lookupOutcome a) u
   lists : {d : ℕ} {a : Listed} {list : List ℕ} → Lists b d (u .store) (u .list) a list
       → Returns b u (listing d) (listOutcome a) (buffers (u .store) (u .work) list (u .output))

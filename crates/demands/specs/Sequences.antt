@@ -15,22 +15,22 @@ use Rattle.rules.specs.Changes.{TouchedPartition}
 use Rattle.layout.specs.Parts.{used, pairRowAt, linkRowAt, rowAt}
 use Rattle.store.specs.Fresh.{Fresh}
 use Rattle.store.specs.Written.{written}
-use Rattle.lists.specs.Lists.{withFront}
+use Rattle.number_lists.specs.Lists.{withFront}
 use Rattle.classification.specs.Classified.{classifyChecks, Classifies, outcomeOf as classifyOutcome}
 use Rattle.classification.specs.declared.Classified.{Classified}
-use Rattle.edits.specs.Answers.{outcomeOf as changeOutcome}
-use Rattle.edits.specs.Lists.{edited}
-use Rattle.edits.specs.Questions.{Lengths, changeChecks}
-use Rattle.edits.specs.Edits.{Effects, Lent, lend, lengths, Edits}
-use Rattle.edits.specs.declared.Changed.{Changed}
+use Rattle.change_contract.specs.Answers.{outcomeOf as changeOutcome}
+use Rattle.change_contract.specs.Lists.{edited}
+use Rattle.change_contract.specs.Questions.{Lengths, changeChecks}
+use Rattle.change_contract.specs.Edits.{Effects, Lent, lend, lengths, Edits}
+use Rattle.change_contract.specs.declared.Changed.{Changed}
 use Rattle.demands.specs.Afresh.{ClassifiesAfresh, ClassifiesAlike}
 
 -- ---- calls
 
--- Classify, or a change that withdraws the axioms of `gone` and adds those of `new`.
+-- Classify, or a change that withdraws the axioms of `withdrawn` and adds those of `added`.
 pub data Request : Type 0 where
   classify : Request
-  change : (gone new : List ℕ) → Request
+  change : (withdrawn added : List ℕ) → Request
 
 -- The arguments of a call: its lists of axioms, the catalogue, and of each buffer its length alone; and the byte of the store at which the part begins that
 -- it is lent, which no question reads.
@@ -63,7 +63,7 @@ pub record Turn : Type 0 where
 -- A call met its own contract. Classify is lent no list.
 pub data Meets (b : List ℕ) (u v : Lent) : Request → Answer → Type 0 where
   classifies : {a : Classified} → Classifies b (u .store) (u .work) a (v .store) (v .work) → Meets b u v classify (classified a)
-  changes : {gone new : List ℕ} {a : Changed} → Edits b gone new u a v → Meets b u v (change gone new) (changed a)
+  changes : {withdrawn added : List ℕ} {a : Changed} → Edits b withdrawn added u a v → Meets b u v (change withdrawn added) (changed a)
 
 -- The part of the store that a call is lent, as long as it says.
 abbrev pub lentTo : Turn → List ℕ → Lent
@@ -103,12 +103,12 @@ pub record Sequence (b store : List ℕ) (t : Turn) (ts : List Turn) (last : Lis
 -- A call's questions, with 13 and 14 passed, and 16 to 18 asked of F.
 unfoldable pub questions : Request → List ℕ → Lengths → Axioms → Outcome
 questions classify b lent F = classifyChecks b (lent .store) (lent .work)
-questions (change gone new) b lent F = changeChecks b gone new lent true true F
+questions (change withdrawn added) b lent F = changeChecks b withdrawn added lent true true F
 
 -- The axioms that it puts in force, accepted.
 unfoldable pub puts : Request → List ℕ → Axioms → Axioms
 puts classify b F = catalogueAxioms b
-puts (change gone new) b F = edited F gone new
+puts (change withdrawn added) b F = edited F withdrawn added
 
 -- With catalogue b a call is asked its questions; with another it is refused, and nothing says by which.
 pub data Expected : Type 0 where
@@ -171,7 +171,7 @@ pub record Correct (b : List ℕ) (F : ℕ → ℕ → Bool) (store : List ℕ) 
   pub keeps : (number at : ℕ) → outcomeOf (t .answer) ≡ refused number at → t .store-after ≡ store
   pub rest : drop (used b) (t .store-after) ≡ drop (used b) store
   pub fresh : Fresh b (afterCall b F (t .call)) (t .store-after)
-  pub changes : (gone new : List ℕ) → t .call .request ≡ change gone new → outcomeOf (t .answer) ≡ accepted → Changes b F (edited F gone new) store t
+  pub changes : (withdrawn added : List ℕ) → t .call .request ≡ change withdrawn added → outcomeOf (t .answer) ≡ accepted → Changes b F (edited F withdrawn added) store t
 
 -- Each turn in a row.
 pub data AllCorrect (b : List ℕ) : (ℕ → ℕ → Bool) → List ℕ → List Turn → Type 0 where

@@ -27,7 +27,7 @@ pub extern "C" fn girvotal_check(catalogue: &[u8], answer: &mut [u64]) -> usize
     if answer.len() < ENTRIES {
         return SHORT_ANSWER;
     }
-    let sizes = sizing::measure(catalogue);
+    let sizes = buffer_sizes::measure(catalogue);
     give(answer, check_reply(sizes))
 }
 
@@ -64,7 +64,7 @@ pub extern "C" fn girvotal_change(
     if answer.len() < ENTRIES {
         return SHORT_ANSWER;
     }
-    let changed = amending::change(catalogue, withdrawn, added, store, work, touched);
+    let changed = change::change(catalogue, withdrawn, added, store, work, touched);
     give(answer, change_reply(changed))
 }
 

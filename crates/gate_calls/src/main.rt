@@ -5,16 +5,16 @@
 // and W10's catalogue of document 01, short buffers and answers, and refusals of each kind.
 ghost use Prim.Native.Nat.{_+_, _≤_, _<_};
 ghost use lib.ListN.{length};
-use cases::fill;
-use cases::least;
-use cases::say;
-use cases::say_checksum;
-use cases::say_refused;
-use cases::say_reply;
-use cases::short_at;
 use libc::STDIN_FILENO;
 use libc::STDOUT_FILENO;
 use row_parts::Handed;
+use test_cases::fill;
+use test_cases::least;
+use test_cases::say;
+use test_cases::say_checksum;
+use test_cases::say_refused;
+use test_cases::say_reply;
+use test_cases::short_at;
 use writing::Wrote;
 
 // Writes the catalogue with the axioms in force.

@@ -6,18 +6,18 @@
 ghost use Prim.Native.Nat.{_+_, _≤_, _<_};
 ghost use lib.ListN.{length};
 ghost use Rattle.layout.specs.Parts.{Sized};
-use cases::fill;
-use cases::least;
-use cases::long_at;
-use cases::say;
-use cases::say_checksum;
-use cases::say_refused;
-use cases::short_at;
 use classification::Classified;
 use classification::classify;
 use layout::used;
 use libc::STDIN_FILENO;
 use libc::STDOUT_FILENO;
+use test_cases::fill;
+use test_cases::least;
+use test_cases::long_at;
+use test_cases::say;
+use test_cases::say_checksum;
+use test_cases::say_refused;
+use test_cases::short_at;
 
 // Writes the counts of pairs and links, and the checksum of the store's used part.
 fn say_classified(b: &[u8], pairs: usize, links: usize, store: &[u8])

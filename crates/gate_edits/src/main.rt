@@ -8,19 +8,19 @@
 ghost use Prim.Native.Nat.{_+_, _≤_, _<_};
 ghost use mathlib.Core.Path.{_≡_};
 ghost use lib.ListN.{length};
-use cases::fill;
-use cases::least;
-use cases::long_at;
-use cases::say;
-use cases::say_checksum;
-use cases::say_digits;
-use cases::say_refused;
-use cases::say_reply;
-use cases::short_at;
+use change_contract::Changed;
 use classification::Classified;
-use edits::Changed;
 use libc::STDIN_FILENO;
 use libc::STDOUT_FILENO;
+use test_cases::fill;
+use test_cases::least;
+use test_cases::long_at;
+use test_cases::say;
+use test_cases::say_checksum;
+use test_cases::say_digits;
+use test_cases::say_refused;
+use test_cases::say_reply;
+use test_cases::short_at;
 
 // The bytes of a step.
 const STEP: usize = 26;
@@ -83,7 +83,7 @@ fn run_change(
     work: &mut [u8],
     list: &mut [u8],
 ) {
-    let answer = amending::change(b, withdrawn, added, store, work, list);
+    let answer = change::change(b, withdrawn, added, store, work, list);
     say_changed(answer);
 }
 
@@ -182,7 +182,7 @@ fn put_bits(step: usize, bytes: &[u8], part: &mut [u8])
 {
     match step {
         1 => rows::or_into(part, bytes),
-        _ => steps::minus_into(part, bytes),
+        _ => row_steps::minus_into(part, bytes),
     }
 }
 

@@ -3,16 +3,16 @@
 // each, low byte first; then the catalogue and the store. The input has W1, W4, W8, W9 and W10 of document 01, a case for each refusal, and others.
 ghost use Prim.Native.Nat.{_+_, _≤_, _<_};
 ghost use lib.ListN.{length};
-use cases::fill;
-use cases::say;
-use cases::say_digits;
-use cases::say_refused;
-use cases::short_at;
 use libc::STDIN_FILENO;
 use libc::STDOUT_FILENO;
 use lookups::Listed;
 use lookups::Looked;
 use row_parts::Handed;
+use test_cases::fill;
+use test_cases::say;
+use test_cases::say_digits;
+use test_cases::say_refused;
+use test_cases::short_at;
 
 // Writes a space and bytes, and ends the line.
 fn say_bytes(bytes: &[u8]) {

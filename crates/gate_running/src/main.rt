@@ -3,16 +3,16 @@
 // lengths of the catalogue and of the list of calls, two bytes each, low byte first; then that catalogue and those calls.
 ghost use Prim.Native.Nat.{_+_, _≤_, _<_};
 ghost use lib.ListN.{length};
-use cases::fill;
-use cases::least;
-use cases::say;
-use cases::say_checksum;
-use cases::short_at;
+use call_lists::Carried;
+use call_lists::requests::ENTRIES;
+use call_lists::requests::LIST;
 use libc::STDIN_FILENO;
 use libc::STDOUT_FILENO;
-use running::Carried;
-use running::requests::ENTRIES;
-use running::requests::LIST;
+use test_cases::fill;
+use test_cases::least;
+use test_cases::say;
+use test_cases::say_checksum;
+use test_cases::short_at;
 
 // The bytes of a case's numbers.
 const CASE: usize = 12;
@@ -103,7 +103,7 @@ fn run(
     let mut answers = [99usize; 390];
     let n = least(numbers, 390);
     let t = least(bytes, lists.len());
-    let carried = running::carry_out(b, calls, store, work, &mut lists[..t], &mut answers[..n]);
+    let carried = call_lists::carry_out(b, calls, store, work, &mut lists[..t], &mut answers[..n]);
     let count = say_carried(carried);
     io::write_all(STDOUT_FILENO, b"\n");
     say_calls(lists, &answers, least(count, SHOWN - 1) + 1);

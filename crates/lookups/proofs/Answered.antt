@@ -6,8 +6,8 @@ use mathlib.Core.List.{List, [], _∷_}
 use lib.ListN.{length}
 use Rattle.catalogue.specs.Outcome.{accepted, refused}
 use Rattle.store.specs.Says.{says}
-use Rattle.lists.specs.Lists.{Filled}
-use Rattle.reading.specs.Checks.{readChecks, listChecks}
+use Rattle.number_lists.specs.Lists.{Filled}
+use Rattle.read_checks.specs.Checks.{readChecks, listChecks}
 use Rattle.lookups.specs.Answers.{looked, lookedUp}
 use Rattle.lookups.specs.Listings.{kindsUnder, listed, listAfter, Lists}
 use Rattle.lookups.specs.declared.pairs.Looked.the-variants as looks

@@ -5,7 +5,7 @@ use mathlib.Core.Bool.{Bool, true, false}
 use mathlib.Core.List.{List, [], _∷_}
 use lib.ListN.{length}
 use Rattle.catalogue.specs.Outcome.{Outcome, accepted, refused}
-use Rattle.reading.specs.Checks.{readChecks, listChecks}
+use Rattle.read_checks.specs.Checks.{readChecks, listChecks}
 use Rattle.lookups.specs.Answers.{lookupOutcome, looked, lookedUp}
 use Rattle.lookups.specs.Listings.{listOutcome, listed, kindsUnder, Lists}
 use Rattle.lookups.specs.declared.pairs.Looked.{Looked}

@@ -5,7 +5,7 @@ use mathlib.Core.Path.{_≡_, sym, _∙_}
 use mathlib.Core.List.{List, [], _∷_}
 use lib.ListN.{length}
 use Rattle.catalogue.specs.Outcome.{Outcome, accepted, refused}
-use Rattle.reading.specs.Checks.{listChecks}
+use Rattle.read_checks.specs.Checks.{listChecks}
 use Rattle.lookups.specs.Listings.{kindsUnder, listed, listAfter, Lists}
 use Rattle.lookups.specs.declared.kinds.Listed.{Listed}
 use Rattle.lookups.specs.declared.kinds.Listed.the-variants.{Refused}

@@ -4,7 +4,7 @@ use mathlib.Core.Bool.{Bool, true, false}
 use mathlib.Core.List.{List, [], _∷_}
 use Rattle.catalogue.specs.Outcome.{Outcome, accepted, refused}
 use Rattle.store.specs.Says.{says}
-use Rattle.reading.specs.Checks.{readChecks}
+use Rattle.read_checks.specs.Checks.{readChecks}
 use Rattle.lookups.specs.declared.pairs.Looked.{Looked}
 use Rattle.lookups.specs.declared.pairs.Looked.the-variants.{Yes, No, Refused}
 

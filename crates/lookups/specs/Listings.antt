@@ -10,8 +10,8 @@ use Rattle.catalogue.specs.Records.{kind}
 use Rattle.catalogue.specs.Outcome.{Outcome, accepted, refused}
 use Rattle.store.specs.Says.{says}
 use Rattle.store.specs.Written.{rising}
-use Rattle.lists.specs.Lists.{withFront}
-use Rattle.reading.specs.Checks.{listChecks}
+use Rattle.number_lists.specs.Lists.{withFront}
+use Rattle.read_checks.specs.Checks.{listChecks}
 use Rattle.lookups.specs.declared.kinds.Listed.{Listed}
 use Rattle.lookups.specs.declared.kinds.Listed.the-variants.{Count, Refused}
 

@@ -4,12 +4,12 @@ ghost use Prim.Native.Nat.{_*_, _≤_, _<_};
 ghost use lib.ListN.{length};
 ghost use Rattle.catalogue.specs.Header.{concepts};
 ghost use Rattle.layout.specs.Parts.{Sized};
-ghost use Rattle.lists.specs.Lists.{Filled};
+ghost use Rattle.number_lists.specs.Lists.{Filled};
 ghost use Rattle.lookups.specs.Listings.{atomicUnder, kindsUnder, Lists};
 use super::pairs::has_pair;
 use catalogue::Concept;
 use catalogue::Verdict;
-use reading::check_listing;
+use read_checks::check_listing;
 
 // What a listing answers.
 pub enum Listed {
@@ -35,7 +35,7 @@ fn list_under(b: &[u8], d: usize, store: &[u8], list: &mut [u8]) -> usize
     let mut count: usize = 0;
     let mut c = 0;
     while c < n {
-        count = lists::enter(list, count, c, atomic_under(b, c, d, store));
+        count = number_lists::enter(list, count, c, atomic_under(b, c, d, store));
         c += 1;
     }
     count

@@ -7,7 +7,7 @@ ghost use Rattle.layout.specs.Parts.{Sized, held};
 ghost use Rattle.lookups.specs.Answers.{lookedUp};
 use catalogue::Verdict;
 use layout::pair_offset;
-use reading::check_reading;
+use read_checks::check_reading;
 
 // What a lookup answers.
 pub enum Looked {

@@ -15,7 +15,7 @@ use Rattle.rules.specs.Occurrence.{Occurs, atomic, occurs}
 use Rattle.rules.proofs.Occurrence.{occurs-exact}
 use Rattle.store.specs.Written.{axiomCount}
 use Rattle.store.specs.Fresh.{Fresh}
-use Rattle.reading.specs.Checks.{readChecks}
+use Rattle.read_checks.specs.Checks.{readChecks}
 use Rattle.row_parts.specs.Rows.{rowAnswer}
 use Rattle.lookups.specs.Listings.{kindsUnder}
 use Rattle.meaning.specs.Meaning.{LookupMeans}

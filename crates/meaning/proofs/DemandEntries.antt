@@ -17,14 +17,14 @@ use Rattle.store.specs.Fresh.{Fresh}
 use Rattle.store.specs.Written.{axiomCount}
 use Rattle.store.proofs.Rising.{rising-lists}
 use Rattle.store.proofs.Checks.{marked-axioms, every-one}
-use Rattle.lists.specs.Lists.{withFront}
-use Rattle.lists.proofs.Filling.{front-entry}
-use Rattle.reading.specs.Checks.{listChecks}
+use Rattle.number_lists.specs.Lists.{withFront}
+use Rattle.number_lists.proofs.Filling.{front-entry}
+use Rattle.read_checks.specs.Checks.{listChecks}
 use Rattle.lookups.specs.Listings.{atomicUnder, kindsUnder, listed, listAfter, Lists}
 use Rattle.meaning.specs.Meaning.{ListingFinds}
 use Rattle.lookups.specs.declared.kinds.Listed.{Listed}
 use Rattle.lookups.specs.declared.kinds.Listed.the-variants.{Count, Refused}
-use Rattle.reading.proofs.Acceptance.{list-named}
+use Rattle.read_checks.proofs.Acceptance.{list-named}
 use Rattle.meaning.proofs.DemandListing.{listing-means, listed-exact}
 use Rattle.lookups.proofs.Unique.{refused-keeps}
 

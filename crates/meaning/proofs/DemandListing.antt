@@ -30,7 +30,7 @@ use Rattle.store.specs.Written.{axiomCount}
 use Rattle.store.specs.Fresh.{Fresh}
 use Rattle.store.specs.Checks.{every, listFits, askList, askNumbers}
 use Rattle.store.proofs.Rising.{rising-lists}
-use Rattle.reading.specs.Checks.{askOccurs, contentChecks, listChecks}
+use Rattle.read_checks.specs.Checks.{askOccurs, contentChecks, listChecks}
 use Rattle.lookups.specs.Listings.{atomicUnder, kindsUnder, listed, Lists}
 use Rattle.meaning.specs.Meaning.{Among, KindUnder, ListingMeans}
 use Rattle.lookups.specs.declared.kinds.Listed.{Listed}

@@ -28,7 +28,7 @@ use Rattle.store.specs.Written.{axiomCount}
 use Rattle.store.specs.Fresh.{Fresh}
 use Rattle.store.specs.Checks.{every, askStore, askSpare, askLimit, askNumbers}
 use Rattle.store.proofs.Checks.{marked-axioms, marked-fits, marked-limit, every-two}
-use Rattle.reading.specs.Checks.{askOccurs, openChecks, contentChecks, readChecks}
+use Rattle.read_checks.specs.Checks.{askOccurs, openChecks, contentChecks, readChecks}
 use Rattle.lookups.specs.Answers.{looked, lookedUp}
 use Rattle.meaning.specs.Meaning.{LookupMeans}
 use Rattle.lookups.specs.declared.pairs.Looked.{Looked}

@@ -29,7 +29,7 @@ use Rattle.store.specs.Written.{axiomCount}
 use Rattle.layout.proofs.StoreSizes.{width-fits}
 use Rattle.layout.proofs.StoreRows.{pair-row-bit}
 use Rattle.store.specs.Checks.{every, askNumbers}
-use Rattle.reading.specs.Checks.{askOccurs, readChecks}
+use Rattle.read_checks.specs.Checks.{askOccurs, readChecks}
 use Rattle.row_parts.specs.Rows.{rowAnswer, HandsOut}
 use Rattle.meaning.specs.Meaning.{RowMeans}
 use Rattle.row_parts.specs.declared.Handed.{Handed}

@@ -12,7 +12,7 @@ use Rattle.rows.specs.Bits.{bit}
 use Rattle.rules.specs.Occurrence.{Occurs}
 use Rattle.rules.specs.Models.{Entails, Refuted}
 use Rattle.layout.specs.Parts.{width, pairRowAt}
-use Rattle.lists.specs.Lists.{withFront}
+use Rattle.number_lists.specs.Lists.{withFront}
 use Rattle.lookups.specs.declared.pairs.Looked.{Looked}
 use Rattle.lookups.specs.declared.pairs.Looked.the-variants.{Yes, No, Refused}
 use Rattle.lookups.specs.declared.kinds.Listed.{Listed}

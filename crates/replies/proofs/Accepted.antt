@@ -10,9 +10,9 @@ use Rattle.catalogue.specs.Outcome.{Outcome, accepted}
 use Rattle.catalogue.proofs.Outcomes.{never-both}
 use Rattle.catalogue.proofs.Refusals.{Small, small-checked}
 use Rattle.classification.proofs.Refusals.{small-classify}
-use Rattle.edits.specs.Edits.{lend}
-use Rattle.edits.proofs.Refusals.{small-edit}
-use Rattle.reading.proofs.Refusals.{small-read, small-list}
+use Rattle.change_contract.specs.Edits.{lend}
+use Rattle.change_contract.proofs.Refusals.{small-edit}
+use Rattle.read_checks.proofs.Refusals.{small-read, small-list}
 use Rattle.writing.proofs.Refusals.{small-write}
 use Rattle.replies.specs.declared.Reply.{Reply}
 use Rattle.replies.specs.declared.Reply.the-variants.{Accepted, Refused}
@@ -45,7 +45,7 @@ zero-if-accepted =
     record {
       check = λ b answer r answer' p. exported-zero (small-checked b) (check-outcome b) p;
       classify = λ b store work answer r store' work' answer' p. exported-zero (small-classify b (length store) (length work)) classify-outcome p;
-      change = λ b gone new store work list answer r store' work' list' answer' p. exported-zero (small-edit b gone new (lend store work list)) change-outcome p;
+      change = λ b withdrawn added store work list answer r store' work' list' answer' p. exported-zero (small-edit b withdrawn added (lend store work list)) change-outcome p;
       lookup = λ b c d store answer r answer' p. exported-zero (small-read b (c ∷ d ∷ []) store) (lookup-outcome b c d store) p;
       list = λ b d store list answer r list' answer' p. exported-zero (small-list b (d ∷ []) store (length list)) list-outcome p;
       row = λ b c store answer r answer' p. exported-zero (small-read b (c ∷ []) store) (row-outcome b c store) p;

@@ -11,11 +11,11 @@ use Rattle.classification.specs.declared.Classified.{Classified}
 use Rattle.classification.specs.declared.Classified.the-variants.{Done}
 use Rattle.classification.specs.Classified.{Classifies}
 use Rattle.classification.proofs.Outcomes.{answer-outcome}
-use Rattle.edits.specs.declared.Changed.{Changed}
-use Rattle.edits.specs.declared.Changed.the-variants.{Done}
-use Rattle.edits.specs.Edits.{Lent, lend, Edits}
-use Rattle.edits.proofs.Outcomes.{answer-outcome as edit-asked}
-use Rattle.edits.proofs.Unique.{same-buffers}
+use Rattle.change_contract.specs.declared.Changed.{Changed}
+use Rattle.change_contract.specs.declared.Changed.the-variants.{Done}
+use Rattle.change_contract.specs.Edits.{Lent, lend, Edits}
+use Rattle.change_contract.proofs.Outcomes.{answer-outcome as edit-asked}
+use Rattle.change_contract.proofs.Unique.{same-buffers}
 use Rattle.lookups.specs.declared.kinds.Listed.{Listed}
 use Rattle.lookups.specs.declared.kinds.Listed.the-variants.{Count}
 use Rattle.lookups.specs.Listings.{Lists}
@@ -79,17 +79,17 @@ classify-kept b store work answer r s w a p n =
 
 -- ---- change
 
-edits-kept : (b gone new : List ℕ) (u v : Lent) (call : Changed) (number at : ℕ) → Edits b gone new u call v → changeReply call ≡ Refused number at → v ≡ u
-edits-kept b gone new u v (Done removed returned gained touched) number at p e = absurd (never-accepted e)
-edits-kept b gone new u v (Changed.Refused n a) number at p e =
-    let x = p .refuses n a (sym (edit-asked b gone new u (Changed.Refused n a) v p)) in
+edits-kept : (b withdrawn added : List ℕ) (u v : Lent) (call : Changed) (number at : ℕ) → Edits b withdrawn added u call v → changeReply call ≡ Refused number at → v ≡ u
+edits-kept b withdrawn added u v (Done removed returned gained touched) number at p e = absurd (never-accepted e)
+edits-kept b withdrawn added u v (Changed.Refused n a) number at p e =
+    let x = p .refuses n a (sym (edit-asked b withdrawn added u (Changed.Refused n a) v p)) in
     same-buffers (x .store-kept) (x .work-kept ∙ work-stays _ n (u .work)) (x .list-kept)
 
-pub change-kept : (b gone new store work list answer : List ℕ) (r : ℕ) (s w t a : List ℕ)
-    → ChangeExported b gone new store work list answer r s w t a → (r ≡ 0 → ⊥)
+pub change-kept : (b withdrawn added store work list answer : List ℕ) (r : ℕ) (s w t a : List ℕ)
+    → ChangeExported b withdrawn added store work list answer r s w t a → (r ≡ 0 → ⊥)
     → (s ≡ store) × (w ≡ work) × (t ≡ list) × (a ≡ answer)
-change-kept b gone new store work list answer r s w t a p n =
-    let u = exported-kept (edits-kept b gone new (lend store work list) (lend s w t)) p n in
+change-kept b withdrawn added store work list answer r s w t a p n =
+    let u = exported-kept (edits-kept b withdrawn added (lend store work list) (lend s w t)) p n in
     (λ i. u .0 i .store, λ i. u .0 i .work, λ i. u .0 i .list, u .1)
 
 -- ---- lookup, list and row

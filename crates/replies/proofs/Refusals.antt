@@ -11,18 +11,18 @@ use Rattle.catalogue.proofs.Refusals.{Small, small-checked}
 use Rattle.classification.specs.declared.Classified.{Classified}
 use Rattle.classification.specs.Classified.{Classifies}
 use Rattle.classification.proofs.Refusals.{small-classify}
-use Rattle.edits.specs.declared.Changed.{Changed}
-use Rattle.edits.specs.Edits.{Lent, Edits}
-use Rattle.edits.proofs.Refusals.{small-edit}
+use Rattle.change_contract.specs.declared.Changed.{Changed}
+use Rattle.change_contract.specs.Edits.{Lent, Edits}
+use Rattle.change_contract.proofs.Refusals.{small-edit}
 use Rattle.lookups.specs.declared.kinds.Listed.{Listed}
 use Rattle.lookups.specs.Answers.{lookedUp}
 use Rattle.lookups.specs.Listings.{Lists}
 use Rattle.row_parts.specs.Rows.{rowAnswer}
-use Rattle.reading.proofs.Refusals.{small-read, small-list}
+use Rattle.read_checks.proofs.Refusals.{small-read, small-list}
 use Rattle.writing.specs.declared.Wrote.{Wrote}
 use Rattle.writing.specs.Write.{Writes}
 use Rattle.writing.proofs.Refusals.{small-write}
-use Rattle.sizing.specs.Sizes.{sizesOf}
+use Rattle.buffer_sizes.specs.Sizes.{sizesOf}
 use Rattle.replies.specs.declared.Reply.{Reply}
 use Rattle.replies.specs.declared.Reply.the-variants.{Accepted, Refused}
 use Rattle.replies.specs.Answers.{returned}
@@ -43,8 +43,8 @@ check-fits b = reply-fits (checkReply (sizesOf b (checked b))) (check-outcome b 
 pub classify-fits : {b store work s w : List ℕ} (call : Classified) → Classifies b store work call s w → returned (classifyReply call) < 2 ^ 64
 classify-fits {b} {store} {work} call p = reply-fits (classifyReply call) (classify-outcome call p) (small-classify b (length store) (length work))
 
-pub edit-fits : {b gone new : List ℕ} {u v : Lent} (call : Changed) → Edits b gone new u call v → returned (changeReply call) < 2 ^ 64
-edit-fits {b} {gone} {new} {u} call p = reply-fits (changeReply call) (change-outcome call p) (small-edit b gone new u)
+pub edit-fits : {b withdrawn added : List ℕ} {u v : Lent} (call : Changed) → Edits b withdrawn added u call v → returned (changeReply call) < 2 ^ 64
+edit-fits {b} {withdrawn} {added} {u} call p = reply-fits (changeReply call) (change-outcome call p) (small-edit b withdrawn added u)
 
 pub lookup-fits : (b : List ℕ) (c d : ℕ) (store : List ℕ) → returned (lookupReply (lookedUp b c d store)) < 2 ^ 64
 lookup-fits b c d store = reply-fits (lookupReply (lookedUp b c d store)) (lookup-outcome b c d store (lookedUp b c d store) refl) (small-read b (c ∷ d ∷ []) store)

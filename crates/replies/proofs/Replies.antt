@@ -9,17 +9,17 @@ use Rattle.classification.specs.declared.Classified.{Classified}
 use Rattle.classification.specs.declared.Classified.the-variants.{Done}
 use Rattle.classification.specs.Classified.{classifyChecks, Classifies}
 use Rattle.classification.proofs.Outcomes.{answer-outcome}
-use Rattle.edits.specs.declared.Changed.{Changed}
-use Rattle.edits.specs.declared.Changed.the-variants.{Done}
-use Rattle.edits.specs.Edits.{Lent, asked, Edits}
-use Rattle.edits.proofs.Outcomes.{answer-outcome as edit-asked}
+use Rattle.change_contract.specs.declared.Changed.{Changed}
+use Rattle.change_contract.specs.declared.Changed.the-variants.{Done}
+use Rattle.change_contract.specs.Edits.{Lent, asked, Edits}
+use Rattle.change_contract.proofs.Outcomes.{answer-outcome as edit-asked}
 use Rattle.lookups.specs.declared.pairs.Looked.{Looked}
 use Rattle.lookups.specs.declared.pairs.Looked.the-variants.{Yes, No}
 use Rattle.lookups.specs.declared.kinds.Listed.{Listed}
 use Rattle.lookups.specs.declared.kinds.Listed.the-variants.{Count}
 use Rattle.row_parts.specs.declared.Handed.{Handed}
 use Rattle.row_parts.specs.declared.Handed.the-variants.{Row}
-use Rattle.reading.specs.Checks.{readChecks, listChecks}
+use Rattle.read_checks.specs.Checks.{readChecks, listChecks}
 use Rattle.lookups.specs.Answers.{lookedUp}
 use Rattle.lookups.specs.Listings.{Lists}
 use Rattle.row_parts.specs.Rows.{rowAnswer}
@@ -29,10 +29,10 @@ use Rattle.writing.specs.declared.Wrote.{Wrote}
 use Rattle.writing.specs.declared.Wrote.the-variants.{Length}
 use Rattle.writing.specs.Write.{ByOutcome}
 use Rattle.writing.proofs.Outcomes.{answer-outcome as write-answer}
-use Rattle.sizing.specs.declared.Sizes.{Sizes}
-use Rattle.sizing.specs.declared.Sizes.the-variants.{Needed}
-use Rattle.sizing.specs.Sizes.{Measures}
-use Rattle.sizing.proofs.Answered.{answer-outcome as check-answer}
+use Rattle.buffer_sizes.specs.declared.Sizes.{Sizes}
+use Rattle.buffer_sizes.specs.declared.Sizes.the-variants.{Needed}
+use Rattle.buffer_sizes.specs.Sizes.{Measures}
+use Rattle.buffer_sizes.proofs.Answered.{answer-outcome as check-answer}
 use Rattle.replies.specs.declared.Reply.{Reply}
 use Rattle.replies.specs.declared.Reply.the-variants.{Accepted, Refused}
 use Rattle.replies.specs.Check.{checkReply}
@@ -55,9 +55,9 @@ pub classify-outcome : {b store work s w : List ℕ} (call : Classified) → Cla
 classify-outcome {b} {store} {work} {s} {w} (Done pairs links) p = answer-outcome b store work (Done pairs links) s w p
 classify-outcome {b} {store} {work} {s} {w} (Classified.Refused number at) p = answer-outcome b store work (Classified.Refused number at) s w p
 
-pub change-outcome : {b gone new : List ℕ} {u v : Lent} (call : Changed) → Edits b gone new u call v → outcomeOf (changeReply call) ≡ asked b gone new u
-change-outcome {b} {gone} {new} {u} {v} (Done removed returned gained touched) p = edit-asked b gone new u (Done removed returned gained touched) v p
-change-outcome {b} {gone} {new} {u} {v} (Changed.Refused number at) p = edit-asked b gone new u (Changed.Refused number at) v p
+pub change-outcome : {b withdrawn added : List ℕ} {u v : Lent} (call : Changed) → Edits b withdrawn added u call v → outcomeOf (changeReply call) ≡ asked b withdrawn added u
+change-outcome {b} {withdrawn} {added} {u} {v} (Done removed returned gained touched) p = edit-asked b withdrawn added u (Done removed returned gained touched) v p
+change-outcome {b} {withdrawn} {added} {u} {v} (Changed.Refused number at) p = edit-asked b withdrawn added u (Changed.Refused number at) v p
 
 pub lookup-outcome : (b : List ℕ) (c d : ℕ) (store : List ℕ) (call : Looked) → call ≡ lookedUp b c d store
     → outcomeOf (lookupReply call) ≡ readChecks b (c ∷ d ∷ []) store

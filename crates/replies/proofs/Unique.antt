@@ -8,8 +8,8 @@ use lib.ListN.{length}
 use Rattle.classification.specs.declared.Classified.{Classified}
 use Rattle.classification.specs.Classified.{Classifies}
 use Rattle.classification.proofs.Unique.{classifies-unique}
-use Rattle.edits.specs.Edits.{lend}
-use Rattle.edits.proofs.Unique.{edit-unique}
+use Rattle.change_contract.specs.Edits.{lend}
+use Rattle.change_contract.proofs.Unique.{edit-unique}
 use Rattle.lookups.proofs.Unique.{lists-unique}
 use Rattle.writing.proofs.Unique.{by-outcome-unique}
 use Rattle.replies.specs.declared.Reply.{Reply}
@@ -60,11 +60,11 @@ classify-unique b store work answer r r' s s' w w' a a' p q =
     let u = exported-unique (classifies-one b store work s s' w w') p q in
     (u .0, λ i. u .1 i .0, λ i. u .1 i .1, u .2)
 
-pub change-unique : (b gone new store work list answer : List ℕ) (r r' : ℕ) (s s' w w' t t' a a' : List ℕ)
-    → ChangeExported b gone new store work list answer r s w t a → ChangeExported b gone new store work list answer r' s' w' t' a'
+pub change-unique : (b withdrawn added store work list answer : List ℕ) (r r' : ℕ) (s s' w w' t t' a a' : List ℕ)
+    → ChangeExported b withdrawn added store work list answer r s w t a → ChangeExported b withdrawn added store work list answer r' s' w' t' a'
     → (r ≡ r') × (s ≡ s') × (w ≡ w') × (t ≡ t') × (a ≡ a')
-change-unique b gone new store work list answer r r' s s' w w' t t' a a' p q =
-    let u = exported-unique (λ call call'. edit-unique b gone new (lend store work list) call call' (lend s w t) (lend s' w' t')) p q in
+change-unique b withdrawn added store work list answer r r' s s' w w' t t' a a' p q =
+    let u = exported-unique (λ call call'. edit-unique b withdrawn added (lend store work list) call call' (lend s w t) (lend s' w' t')) p q in
     (u .0, λ i. u .1 i .store, λ i. u .1 i .work, λ i. u .1 i .list, u .2)
 
 pub lookup-unique : (b : List ℕ) (c d : ℕ) (store answer : List ℕ) (r r' : ℕ) (a a' : List ℕ)

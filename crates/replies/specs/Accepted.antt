@@ -7,8 +7,8 @@ use lib.ListN.{length}
 use Rattle.catalogue.specs.Outcome.{Outcome, accepted}
 use Rattle.catalogue.specs.Checks.{checked}
 use Rattle.classification.specs.Classified.{classifyChecks}
-use Rattle.edits.specs.Edits.{lend, asked}
-use Rattle.reading.specs.Checks.{readChecks, listChecks}
+use Rattle.change_contract.specs.Edits.{lend, asked}
+use Rattle.read_checks.specs.Checks.{readChecks, listChecks}
 use Rattle.writing.specs.Write.{writeChecks}
 use Rattle.replies.specs.Check.{CheckExported}
 use Rattle.replies.specs.Classify.{ClassifyExported}
@@ -25,8 +25,8 @@ pub record ZeroIfAccepted : Type 0 where
   pub check : (b answer : List ℕ) (r : ℕ) (answer' : List ℕ) → CheckExported b answer r answer' → ZeroExactly answer (checked b) r
   pub classify : (b store work answer : List ℕ) (r : ℕ) (store' work' answer' : List ℕ) → ClassifyExported b store work answer r store' work' answer'
       → ZeroExactly answer (classifyChecks b (length store) (length work)) r
-  pub change : (b gone new store work list answer : List ℕ) (r : ℕ) (store' work' list' answer' : List ℕ)
-      → ChangeExported b gone new store work list answer r store' work' list' answer' → ZeroExactly answer (asked b gone new (lend store work list)) r
+  pub change : (b withdrawn added store work list answer : List ℕ) (r : ℕ) (store' work' list' answer' : List ℕ)
+      → ChangeExported b withdrawn added store work list answer r store' work' list' answer' → ZeroExactly answer (asked b withdrawn added (lend store work list)) r
   pub lookup : (b : List ℕ) (c d : ℕ) (store answer : List ℕ) (r : ℕ) (answer' : List ℕ) → LookupExported b c d store answer r answer'
       → ZeroExactly answer (readChecks b (c ∷ d ∷ []) store) r
   pub list : (b : List ℕ) (d : ℕ) (store list answer : List ℕ) (r : ℕ) (list' answer' : List ℕ) → ListExported b d store list answer r list' answer'

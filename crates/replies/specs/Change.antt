@@ -1,9 +1,9 @@
 -- What girvotal_change answers and leaves, by change's own definitions.
 use Prim.Native.Nat.{ℕ}
 use mathlib.Core.List.{List}
-use Rattle.edits.specs.declared.Changed.{Changed}
-use Rattle.edits.specs.declared.Changed.the-variants.{Done}
-use Rattle.edits.specs.Edits.{lend, Edits}
+use Rattle.change_contract.specs.declared.Changed.{Changed}
+use Rattle.change_contract.specs.declared.Changed.the-variants.{Done}
+use Rattle.change_contract.specs.Edits.{lend, Edits}
 use Rattle.replies.specs.declared.Reply.{Reply}
 use Rattle.replies.specs.declared.Reply.the-variants.{Accepted}
 use Rattle.replies.specs.Answers.{Exported}
@@ -14,6 +14,6 @@ changeReply (Done removed returned gained touched) = Accepted removed returned g
 changeReply (Changed.Refused number at) = Reply.Refused number at
 
 -- The buffers lent to be written are the store, the work space and the list.
-abbrev pub ChangeExported : (b gone new store work list answer : List ℕ) (r : ℕ) (store' work' list' answer' : List ℕ) → Type 0
-ChangeExported b gone new store work list answer r store' work' list' answer' =
-    Exported (Edits b gone new (lend store work list)) changeReply (lend store work list) answer r (lend store' work' list') answer'
+abbrev pub ChangeExported : (b withdrawn added store work list answer : List ℕ) (r : ℕ) (store' work' list' answer' : List ℕ) → Type 0
+ChangeExported b withdrawn added store work list answer r store' work' list' answer' =
+    Exported (Edits b withdrawn added (lend store work list)) changeReply (lend store work list) answer r (lend store' work' list') answer'

@@ -1,9 +1,9 @@
 -- What girvotal_check answers, by measure's own definitions.
 use Prim.Native.Nat.{ℕ}
 use mathlib.Core.List.{List}
-use Rattle.sizing.specs.declared.Sizes.{Sizes}
-use Rattle.sizing.specs.declared.Sizes.the-variants.{Needed}
-use Rattle.sizing.specs.Sizes.{Measures}
+use Rattle.buffer_sizes.specs.declared.Sizes.{Sizes}
+use Rattle.buffer_sizes.specs.declared.Sizes.the-variants.{Needed}
+use Rattle.buffer_sizes.specs.Sizes.{Measures}
 use Rattle.replies.specs.declared.Reply.{Reply}
 use Rattle.replies.specs.declared.Reply.the-variants.{Accepted}
 use Rattle.replies.specs.Answers.{Exported}

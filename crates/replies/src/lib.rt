@@ -8,12 +8,12 @@ ghost use Rattle.replies.specs.Classify.{classifyReply};
 ghost use Rattle.replies.specs.Change.{changeReply};
 ghost use Rattle.replies.specs.Lookups.{lookupReply, listReply, rowReply};
 ghost use Rattle.replies.specs.Write.{writeReply};
+use buffer_sizes::Sizes;
+use change_contract::Changed;
 use classification::Classified;
-use edits::Changed;
 use lookups::Listed;
 use lookups::Looked;
 use row_parts::Handed;
-use sizing::Sizes;
 use writing::Wrote;
 
 // What an exported call replies: the four entries, or the refusal's number and record.

@@ -8,8 +8,8 @@ use denote.Ref.{RefT, ptr, now}
 use Rattle.catalogue.specs.Outcome.{Outcome, accepted, refused}
 use Rattle.layout.specs.Parts.{width, pairRowAt}
 use Rattle.layout.proofs.Offsets.{row-in-store}
-use Rattle.reading.specs.Checks.{readChecks}
-use Rattle.reading.proofs.Acceptance.{read-named, named-one}
+use Rattle.read_checks.specs.Checks.{readChecks}
+use Rattle.read_checks.proofs.Acceptance.{read-named, named-one}
 use Rattle.row_parts.specs.Rows.{handed, rowAnswer, Within, Names, HandsOut}
 use Rattle.row_parts.specs.declared.Handed.{Handed}
 use Rattle.row_parts.specs.declared.Handed.the-variants as hands

@@ -3,7 +3,7 @@ use Prim.Native.Nat.{ℕ}
 use mathlib.Core.Path.{_≡_, refl, ap, _∙_}
 use mathlib.Core.List.{List, [], _∷_}
 use Rattle.catalogue.specs.Outcome.{Outcome, accepted, refused}
-use Rattle.reading.specs.Checks.{readChecks}
+use Rattle.read_checks.specs.Checks.{readChecks}
 use Rattle.row_parts.specs.Rows.{rowOutcome, handed, rowAnswer}
 use Rattle.row_parts.specs.declared.Handed.{Handed}
 

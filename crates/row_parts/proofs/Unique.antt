@@ -13,8 +13,8 @@ use Rattle.rules.specs.Rules.{pair}
 use Rattle.layout.specs.Parts.{width, pairRowAt, held}
 use Rattle.layout.proofs.StoreSizes.{width-fits}
 use Rattle.layout.proofs.Offsets.{held-pair}
-use Rattle.reading.specs.Checks.{readChecks}
-use Rattle.reading.proofs.Acceptance.{read-named, named-one}
+use Rattle.read_checks.specs.Checks.{readChecks}
+use Rattle.read_checks.proofs.Acceptance.{read-named, named-one}
 use Rattle.row_parts.specs.Rows.{HandsOut}
 
 -- Bytes and, where accepted, place. Where an empty part points is free.

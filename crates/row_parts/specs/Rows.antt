@@ -6,7 +6,7 @@ use lib.ListN.{length, take, drop}
 use denote.Ref.{RefT, ptr, now}
 use Rattle.catalogue.specs.Outcome.{Outcome, accepted, refused}
 use Rattle.layout.specs.Parts.{width, pairRowAt}
-use Rattle.reading.specs.Checks.{readChecks}
+use Rattle.read_checks.specs.Checks.{readChecks}
 use Rattle.row_parts.specs.declared.Handed.{Handed}
 use Rattle.row_parts.specs.declared.Handed.the-variants.{Row, Refused}
 

@@ -4,7 +4,7 @@ ghost use Rattle.row_parts.specs.Rows.{rowAnswer, Within, Names, HandsOu
 use catalogue::Verdict;
 use layout::Shape;
 use layout::pair_offset;
-use reading::check_reading;
+use read_checks::check_reading;
 
 // What a row's call answers: the byte of the store at which the row begins and how many it has, or the refusal.
 pub enum Handed {

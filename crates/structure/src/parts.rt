@@ -42,7 +42,7 @@ pub fn contains(b: &[u8], i: usize, j: usize, row: &mut [u8]) -> bool
     requires { ⌜ WellFormed (now b) × (i < concepts (now b)) × (concepts (now b) ≤ 8 * length (now row)) ⌝ }
     ensures { λ r. ⌜ (r ≡ true) ↔ Contains (now (b .entry)) i j ⌝ }
 {
-    steps::clear(row);
+    row_steps::clear(row);
     mark_contained(b, i, row);
     rows::has(row, j)
 }

@@ -5,8 +5,8 @@ use denote.Ref.{now}
 use Rattle.catalogue.specs.Outcome.{accepted}
 use Rattle.catalogue.specs.Verdicts.{outcomeOf}
 use Rattle.row_parts.specs.declared.Handed.the-variants.{Row}
-use Rattle.reading.specs.Checks.{readChecks, Named}
-use Rattle.reading.proofs.Acceptance.{read-named, named-one, read-twice}
+use Rattle.read_checks.specs.Checks.{readChecks, Named}
+use Rattle.read_checks.proofs.Acceptance.{read-named, named-one, read-twice}
 use Rattle.row_parts.proofs.Answered.{row-accepted, row-refused}
 use borrow.Author.Needs.{needs}
 use Rattle.row_parts.proofs.row_answer.Statement.{statement}

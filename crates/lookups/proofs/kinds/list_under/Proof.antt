@@ -7,8 +7,8 @@ use mathlib.Core.Path.{_≡_, refl, subst, _∙_}
 use lib.ListN.{length}
 use borrow.Author.Needs.{needs}
 use Rattle.store.specs.Written.{rising}
-use Rattle.lists.specs.Lists.{Filled}
-use Rattle.lists.proofs.Filling.{filled-none, filled-most, filled-step}
+use Rattle.number_lists.specs.Lists.{Filled}
+use Rattle.number_lists.proofs.Filling.{filled-none, filled-most, filled-step}
 use Rattle.lookups.specs.Listings.{atomicUnder, kindsUnder}
 use Rattle.lookups.proofs.kinds.list_under.Statement.{statement}
 use Rattle.lookups.proofs.kinds.list_under.Tie as tie

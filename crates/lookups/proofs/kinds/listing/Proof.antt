@@ -1,7 +1,7 @@
 -- `listing` meets its contract: refused, nothing is written.
 use mathlib.Core.Path.{sym, ap, _∙_}
 use Rattle.catalogue.specs.Verdicts.{outcomeOf}
-use Rattle.reading.proofs.Acceptance.{list-named, named-one}
+use Rattle.read_checks.proofs.Acceptance.{list-named, named-one}
 use Rattle.lookups.proofs.Answered.{lists-accepted, lists-refused}
 use borrow.Author.Needs.{needs}
 use Rattle.lookups.proofs.kinds.listing.Statement.{statement}

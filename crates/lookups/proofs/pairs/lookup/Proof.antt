@@ -4,8 +4,8 @@ use mathlib.Core.List.{[], _∷_}
 use denote.Ref.{now}
 use Rattle.catalogue.specs.Verdicts.{outcomeOf}
 use Rattle.store.proofs.Says.{says-pair}
-use Rattle.reading.specs.Checks.{Named}
-use Rattle.reading.proofs.Acceptance.{read-named, named-two}
+use Rattle.read_checks.specs.Checks.{Named}
+use Rattle.read_checks.proofs.Acceptance.{read-named, named-two}
 use Rattle.lookups.proofs.Answered.{looked-up, looked-refused}
 use borrow.Author.Needs.{needs}
 use Rattle.lookups.proofs.pairs.lookup.Statement.{statement}
