@@ -8,6 +8,7 @@ ghost use lib.ListN.{length};
 use libc::STDIN_FILENO;
 use libc::STDOUT_FILENO;
 use row_parts::Handed;
+use test_cases::end_at;
 use test_cases::fill;
 use test_cases::least;
 use test_cases::say;
@@ -101,7 +102,7 @@ fn run(
     }
 }
 
-// Runs the case at a byte of the input, if the input has all of it, with the buffers filled afresh, and says where the next one starts. Writes the checksums
+// Runs the case at a byte of the input, with the buffers filled afresh, and says where the next one starts. Writes the checksums
 // of both whole buffers too: what a call must not change shows there.
 fn run_case(text: &[u8], at: usize, store: &mut [u8], other: &mut [u8]) -> usize
     requires { ⌜ at + 16 ≤ length (now text) ⌝ }
@@ -114,11 +115,8 @@ fn run_case(text: &[u8], at: usize, store: &mut [u8], other: &mut [u8]) -> usize
     let s = least(short_at(text, at + 8), store.len());
     let o = least(short_at(text, at + 10), other.len());
     let start = at + 16;
-    let middle = start + short_at(text, at + 12);
-    let end = middle + short_at(text, at + 14);
-    if text.len() < end {
-        return text.len();
-    }
+    let middle = end_at(text, at + 12, start);
+    let end = end_at(text, at + 14, middle);
     fill(store, 165);
     fill(other, 90);
     run(

@@ -11,6 +11,7 @@ use classification::classify;
 use layout::used;
 use libc::STDIN_FILENO;
 use libc::STDOUT_FILENO;
+use test_cases::end_at;
 use test_cases::fill;
 use test_cases::least;
 use test_cases::long_at;
@@ -38,16 +39,13 @@ fn run(b: &[u8], store: &mut [u8], work: &mut [u8]) {
     }
 }
 
-// Runs the case at a byte of the input, if the input has all of it, and says where the next one starts.
+// Runs the case at a byte of the input, and says where the next one starts.
 fn run_case(text: &[u8], at: usize, store: &mut [u8], work: &mut [u8]) -> usize
     requires { ⌜ at + 10 ≤ length (now text) ⌝ }
     ensures { λ r. ⌜ (at < r) × (r ≤ length (now (text .entry))) ⌝ }
 {
     let start = at + 10;
-    let end = start + short_at(text, at);
-    if text.len() < end {
-        return text.len();
-    }
+    let end = end_at(text, at, start);
     let s = least(long_at(text, at + 2), store.len());
     let w = least(long_at(text, at + 6), work.len());
     fill(work, 90);

@@ -12,6 +12,7 @@ use change_contract::Changed;
 use classification::Classified;
 use libc::STDIN_FILENO;
 use libc::STDOUT_FILENO;
+use test_cases::end_at;
 use test_cases::fill;
 use test_cases::least;
 use test_cases::long_at;
@@ -105,19 +106,12 @@ fn run(
     }
 }
 
-// Where a part of the input starts, by the number at a byte, and where it ends, by the number there of its length.
+// Where a part of the input starts, by the number at a byte.
 fn start_at(text: &[u8], at: usize) -> usize
     requires { ⌜ at + 1 < length (now text) ⌝ }
     ensures { λ r. ⌜ r ≤ length (now (text .entry)) ⌝ }
 {
     least(short_at(text, at), text.len())
-}
-
-fn end_at(text: &[u8], at: usize, start: usize) -> usize
-    requires { ⌜ (at + 1 < length (now text)) × (start ≤ length (now text)) ⌝ }
-    ensures { λ r. ⌜ (start ≤ r) × (r ≤ length (now (text .entry))) ⌝ }
-{
-    least(start + short_at(text, at), text.len())
 }
 
 // Runs the call of a step with its two lists.

@@ -1,6 +1,6 @@
 // Runs lookup, listing and row on the cases of its input, and writes what each answers.
 // A case: the call (0 lookup, 1 listing, 2 row), two concept numbers, the lengths of the list, the catalogue and the store that are lent, two bytes
-// each, low byte first; then the catalogue and the store. The input has W1, W4, W8, W9 and W10 of document 01, a case for each refusal, and others.
+// each, low byte first (all of the list, where it is shorter); then the catalogue and the store. The input has W1, W4, W8, W9 and W10 of document 01, a case for each refusal, and others.
 ghost use Prim.Native.Nat.{_+_, _≤_, _<_};
 ghost use lib.ListN.{length};
 use libc::STDIN_FILENO;
@@ -8,7 +8,9 @@ use libc::STDOUT_FILENO;
 use lookups::Listed;
 use lookups::Looked;
 use row_parts::Handed;
+use test_cases::end_at;
 use test_cases::fill;
+use test_cases::least;
 use test_cases::say;
 use test_cases::say_digits;
 use test_cases::say_refused;
@@ -71,7 +73,7 @@ fn run(call: usize, b: &[u8], c: usize, d: usize, store: &[u8], list: &mut [u8])
     }
 }
 
-// Runs the case at a byte of the input, if the input has all of it, and says where the next one starts.
+// Runs the case at a byte of the input, and says where the next one starts.
 fn run_case(text: &[u8], at: usize, list: &mut [u8]) -> usize
     requires { ⌜ at + 12 ≤ length (now text) ⌝ }
     ensures { λ r. ⌜ (at < r) × (r ≤ length (now (text .entry))) ⌝ }
@@ -79,16 +81,10 @@ fn run_case(text: &[u8], at: usize, list: &mut [u8]) -> usize
     let call = short_at(text, at);
     let c = short_at(text, at + 2);
     let d = short_at(text, at + 4);
-    let long = short_at(text, at + 6);
+    let long = least(short_at(text, at + 6), list.len());
     let start = at + 12;
-    let middle = start + short_at(text, at + 8);
-    let end = middle + short_at(text, at + 10);
-    if text.len() < end {
-        return text.len();
-    }
-    if list.len() < long {
-        return end;
-    }
+    let middle = end_at(text, at + 8, start);
+    let end = end_at(text, at + 10, middle);
     run(
         call,
         &text[start..middle],

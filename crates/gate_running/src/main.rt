@@ -8,6 +8,7 @@ use call_lists::requests::ENTRIES;
 use call_lists::requests::LIST;
 use libc::STDIN_FILENO;
 use libc::STDOUT_FILENO;
+use test_cases::end_at;
 use test_cases::fill;
 use test_cases::least;
 use test_cases::say;
@@ -109,7 +110,7 @@ fn run(
     say_calls(lists, &answers, least(count, SHOWN - 1) + 1);
 }
 
-// Runs the case at a byte of the input, if the input has all of it, with the buffers filled afresh, and says where the next one starts.
+// Runs the case at a byte of the input, with the buffers filled afresh, and says where the next one starts.
 fn run_case(text: &[u8], at: usize, store: &mut [u8], work: &mut [u8], lists: &mut [u8]) -> usize
     requires { ⌜ at + 12 ≤ length (now text) ⌝ }
     ensures { λ r. ⌜ (at < r) × (r ≤ length (now (text .entry))) ⌝ }
@@ -119,11 +120,8 @@ fn run_case(text: &[u8], at: usize, store: &mut [u8], work: &mut [u8], lists: &m
     let bytes = short_at(text, at + 4);
     let numbers = short_at(text, at + 6);
     let start = at + CASE;
-    let middle = start + short_at(text, at + 8);
-    let end = middle + short_at(text, at + 10);
-    if text.len() < end {
-        return text.len();
-    }
+    let middle = end_at(text, at + 8, start);
+    let end = end_at(text, at + 10, middle);
     fill(store, 165);
     fill(work, 90);
     fill(lists, 195);

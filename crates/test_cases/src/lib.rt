@@ -1,5 +1,5 @@
-// What programs share that run the cases of their input: the input's numbers, the lesser of two, buffers filled before a call,
-// and answers in words, numbers and checksums.
+// What programs share that run the cases of their input: the input's numbers, the lesser of two, the ends of a case's parts, buffers filled
+// before a call, and answers in words, numbers and checksums.
 pub mod sequences; // sequences.rt: bytes and entries in a row
 
 pub use sequences::say_digits;
@@ -32,6 +32,14 @@ pub fn least(a: usize, b: usize) -> usize
     ensures { λ r. ⌜ (r ≤ b) × (r ≡ min a b) ⌝ }
 {
     if a < b { a } else { b }
+}
+
+// Where a part of the input ends that starts at a byte, by the number of its bytes at another byte: with the input, where that is shorter.
+pub fn end_at(text: &[u8], at: usize, start: usize) -> usize
+    requires { ⌜ (at + 1 < length (now text)) × (start ≤ length (now text)) ⌝ }
+    ensures { λ r. ⌜ (start ≤ r) × (r ≤ length (now (text .entry))) ⌝ }
+{
+    least(start + short_at(text, at), text.len())
 }
 
 // Fills a buffer with one byte, so that what a call writes shows.

@@ -47,26 +47,17 @@ least-requires-2 c κs = search needs
 add-start : tie.Need-add-start
 add-start c = search needs
 
-add-short-at-6 : tie.Need-add-short-at-6
-add-short-at-6 c = search needs
+add-end-at : tie.Need-add-end-at
+add-end-at c = search needs
 
-short-at-requires-7 : tie.Need-short-at-requires-7
-short-at-requires-7 c κs = search needs
+end-at-requires : tie.Need-end-at-requires
+end-at-requires c κs = search needs
 
-add-middle : tie.Need-add-middle
-add-middle c = search needs
+add-end-at-2 : tie.Need-add-end-at-2
+add-end-at-2 c = search needs
 
-add-short-at-7 : tie.Need-add-short-at-7
-add-short-at-7 c = search needs
-
-short-at-requires-8 : tie.Need-short-at-requires-8
-short-at-requires-8 c κs = search needs
-
-add-end : tie.Need-add-end
-add-end c = search needs
-
-returns : tie.Need-returns
-returns c = search needs
+end-at-requires-2 : tie.Need-end-at-requires-2
+end-at-requires-2 c κs = search needs
 
 fill-requires : tie.Need-fill-requires
 fill-requires c κs = search needs
@@ -131,8 +122,8 @@ same-length c = search needs
 same-length-2 : tie.Need-same-length-2
 same-length-2 c = search needs
 
-returns-2 : tie.Need-returns-2
-returns-2 c = search needs
+returns : tie.Need-returns
+returns c = search needs
 
 pub run-case-spec : {M : Type 1} → statement M
 run-case-spec =
@@ -152,13 +143,10 @@ run-case-spec =
     short-at-requires-6
     least-requires-2
     add-start
-    add-short-at-6
-    short-at-requires-7
-    add-middle
-    add-short-at-7
-    short-at-requires-8
-    add-end
-    returns
+    add-end-at
+    end-at-requires
+    add-end-at-2
+    end-at-requires-2
     fill-requires
     fill-requires-2
     sub-run
@@ -180,4 +168,4 @@ run-case-spec =
     write-all-requires
     same-length
     same-length-2
-    returns-2)
+    returns)

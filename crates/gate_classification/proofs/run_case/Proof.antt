@@ -8,14 +8,8 @@ use Rattle.gate_classification.proofs.run_case.Tie as tie
 add-start : tie.Need-add-start
 add-start c = search needs
 
-short-at-requires : tie.Need-short-at-requires
-short-at-requires c κs = search needs
-
-add-end : tie.Need-add-end
-add-end c = search needs
-
-returns : tie.Need-returns
-returns c = search needs
+end-at-requires : tie.Need-end-at-requires
+end-at-requires c κs = search needs
 
 add-long-at : tie.Need-add-long-at
 add-long-at c = search needs
@@ -86,17 +80,15 @@ same-length c = search needs
 same-length-2 : tie.Need-same-length-2
 same-length-2 c = search needs
 
-returns-2 : tie.Need-returns-2
-returns-2 c = search needs
+returns : tie.Need-returns
+returns c = search needs
 
 pub run-case-spec : {M : Type 1} → statement M
 run-case-spec =
     tie.close
     (tie.spec
     add-start
-    short-at-requires
-    add-end
-    returns
+    end-at-requires
     add-long-at
     long-at-requires
     least-requires
@@ -120,4 +112,4 @@ run-case-spec =
     write-all-requires
     same-length
     same-length-2
-    returns-2)
+    returns)

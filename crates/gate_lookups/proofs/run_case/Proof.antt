@@ -26,32 +26,23 @@ add-short-at-3 c = search needs
 short-at-requires-4 : tie.Need-short-at-requires-4
 short-at-requires-4 c κs = search needs
 
+least-requires : tie.Need-least-requires
+least-requires c κs = search needs
+
 add-start : tie.Need-add-start
 add-start c = search needs
 
-add-short-at-4 : tie.Need-add-short-at-4
-add-short-at-4 c = search needs
+add-end-at : tie.Need-add-end-at
+add-end-at c = search needs
 
-short-at-requires-5 : tie.Need-short-at-requires-5
-short-at-requires-5 c κs = search needs
+end-at-requires : tie.Need-end-at-requires
+end-at-requires c κs = search needs
 
-add-middle : tie.Need-add-middle
-add-middle c = search needs
+add-end-at-2 : tie.Need-add-end-at-2
+add-end-at-2 c = search needs
 
-add-short-at-5 : tie.Need-add-short-at-5
-add-short-at-5 c = search needs
-
-short-at-requires-6 : tie.Need-short-at-requires-6
-short-at-requires-6 c κs = search needs
-
-add-end : tie.Need-add-end
-add-end c = search needs
-
-returns : tie.Need-returns
-returns c = search needs
-
-returns-2 : tie.Need-returns-2
-returns-2 c = search needs
+end-at-requires-2 : tie.Need-end-at-requires-2
+end-at-requires-2 c κs = search needs
 
 sub-run : tie.Need-sub-run
 sub-run c = search needs
@@ -83,8 +74,8 @@ run-requires c κs = search needs
 same-length : tie.Need-same-length
 same-length c = search needs
 
-returns-3 : tie.Need-returns-3
-returns-3 c = search needs
+returns : tie.Need-returns
+returns c = search needs
 
 pub run-case-spec : {M : Type 1} → statement M
 run-case-spec =
@@ -97,15 +88,12 @@ run-case-spec =
     short-at-requires-3
     add-short-at-3
     short-at-requires-4
+    least-requires
     add-start
-    add-short-at-4
-    short-at-requires-5
-    add-middle
-    add-short-at-5
-    short-at-requires-6
-    add-end
-    returns
-    returns-2
+    add-end-at
+    end-at-requires
+    add-end-at-2
+    end-at-requires-2
     sub-run
     part-run-start
     part-run-end
@@ -116,4 +104,4 @@ run-case-spec =
     slice-aggregate-run
     run-requires
     same-length
-    returns-3)
+    returns)

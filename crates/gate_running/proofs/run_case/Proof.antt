@@ -35,26 +35,17 @@ short-at-requires-4 c κs = search needs
 add-start : tie.Need-add-start
 add-start c = search needs
 
-add-short-at-4 : tie.Need-add-short-at-4
-add-short-at-4 c = search needs
+add-end-at : tie.Need-add-end-at
+add-end-at c = search needs
 
-short-at-requires-5 : tie.Need-short-at-requires-5
-short-at-requires-5 c κs = search needs
+end-at-requires : tie.Need-end-at-requires
+end-at-requires c κs = search needs
 
-add-middle : tie.Need-add-middle
-add-middle c = search needs
+add-end-at-2 : tie.Need-add-end-at-2
+add-end-at-2 c = search needs
 
-add-short-at-5 : tie.Need-add-short-at-5
-add-short-at-5 c = search needs
-
-short-at-requires-6 : tie.Need-short-at-requires-6
-short-at-requires-6 c κs = search needs
-
-add-end : tie.Need-add-end
-add-end c = search needs
-
-returns : tie.Need-returns
-returns c = search needs
+end-at-requires-2 : tie.Need-end-at-requires-2
+end-at-requires-2 c κs = search needs
 
 fill-requires : tie.Need-fill-requires
 fill-requires c κs = search needs
@@ -110,8 +101,8 @@ same-length-2 c = search needs
 same-length-3 : tie.Need-same-length-3
 same-length-3 c = search needs
 
-returns-2 : tie.Need-returns-2
-returns-2 c = search needs
+returns : tie.Need-returns
+returns c = search needs
 
 pub run-case-spec : {M : Type 1} → statement M
 run-case-spec =
@@ -127,13 +118,10 @@ run-case-spec =
     add-short-at-3
     short-at-requires-4
     add-start
-    add-short-at-4
-    short-at-requires-5
-    add-middle
-    add-short-at-5
-    short-at-requires-6
-    add-end
-    returns
+    add-end-at
+    end-at-requires
+    add-end-at-2
+    end-at-requires-2
     fill-requires
     fill-requires-2
     fill-requires-3
@@ -152,4 +140,4 @@ run-case-spec =
     same-length
     same-length-2
     same-length-3
-    returns-2)
+    returns)
