@@ -103,12 +103,13 @@ module _ (b : List ℕ) (wf : WellFormed b) where
 
   -- The atomic records below k are marked.
   block-marks : (k : ℕ) → k ≤ concepts b → MarksMore (AtomicAt b (width b) k) (replicate (workUsed b) 0) (atomicBlock b k)
-  unfolding atomicBlock shapeOf width
+  unfolding atomicBlock shapeOf width place
   block-marks zero l = atomic-none b (width b) (replicate (workUsed b) 0)
   block-marks (suc c) l =
+      let room = on-diagonal b (shapeOf b) shaped c l in
       subst (λ (k : ℕ). MarksMore (AtomicAt b (width b) k) (replicate (workUsed b) 0) (atomicBlock b (suc c))) (let next : c + 1 ≡ suc c = omega arith in next)
       (atomic-more b (width b) c (replicate (workUsed b) 0) (atomicBlock b c) (atomicBlock b (suc c)) (block-marks c (omega arith))
-      (omega (arith, on-diagonal b (shapeOf b) shaped c l, block-long b c, work-is-block b)) refl)
+      (omega (arith, room .0, room .1, block-long b c, work-is-block b)) refl)
 
   rows-long : length (replicate {A = ℕ} (concepts b * width b) 0) ≡ tableLength (shapeOf b)
   rows-long = length-replicate {A = ℕ} (concepts b * width b) 0 ∙ sym (table-long b)
