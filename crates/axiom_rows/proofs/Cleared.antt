@@ -11,7 +11,7 @@ use Rattle.rows.proofs.Bits.{bit-zeros}
 use Rattle.rules.specs.Axioms.{catalogueAxioms}
 use Rattle.layout.specs.declared.Shape.{Shape}
 use Rattle.layout.specs.Layout.{table, tableLength}
-use Rattle.buffered_change.proofs.Copies.{copied-all}
+use Rattle.row_steps.proofs.Copies.{copied-all}
 use Rattle.axiom_rows.specs.Putting.{MarksAxioms, PutsAxioms}
 
 -- A table of zeros holds no axiom.

@@ -1,4 +1,4 @@
--- Axioms read from lists of bytes, and what is asked of each of them.
+-- Lists of axioms as 22 asks for them, and what is asked of each axiom.
 use Prim.Native.Nat.{ℕ, _≤_, _%_}
 use mathlib.Core.Path.{_≡_}
 use mathlib.Core.Bool.{Bool, not, _&&_}
@@ -6,7 +6,6 @@ use mathlib.Core.List.{List}
 use lib.Dec.{ltb}
 use lib.ListN.{length}
 use Rattle.catalogue.specs.Header.{concepts}
-use Rattle.catalogue.specs.declared.records.Axiom.{Axiom}
 use Rattle.rules.specs.Axioms.{Axioms}
 use Rattle.change_contract.specs.Lists.{leftIn, rightIn}
 use Rattle.change_contract.specs.Questions.{repeats}
@@ -17,11 +16,6 @@ use Rattle.change_checks.specs.declared.Fault.the-variants.{Repeated, Be
 pub record Whole (list : List ℕ) : Type 0 where
   pub few : length list ≤ 256
   pub whole : length list % 4 ≡ 0
-
--- Axiom k of a list.
-pub record ReadAt (list : List ℕ) (k : ℕ) (a : Axiom) : Type 0 where
-  pub left-is : a .left ≡ leftIn list k
-  pub right-is : a .right ≡ rightIn list k
 
 -- Axiom k of a list is at fault, where F is in force.
 unfoldable pub faultAt : Fault → (b : List ℕ) → Axioms → List ℕ → ℕ → Bool

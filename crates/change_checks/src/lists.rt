@@ -1,19 +1,12 @@
 // Axioms in lists of bytes, four for each.
 use catalogue::Axiom;
+use change_contract::axiom_at;
 ghost use Prim.Native.Nat.{_+_, _*_, _≤_, _<_};
 ghost use mathlib.Core.Path.{_≡_};
 ghost use mathlib.Core.List.{_++_};
 ghost use lib.ListN.{length};
-ghost use Rattle.change_contract.specs.Lists.{axiomsIn, among};
-ghost use Rattle.change_checks.specs.Reading.{ReadAt, Whole};
-
-// Axiom k of a list.
-pub fn axiom_at(list: &[u8], k: usize) -> Axiom
-    requires { ⌜ 4 * k + 4 ≤ length (now list) ⌝ }
-    ensures { λ r. ⌜ ReadAt (now (list .entry)) k r ⌝ }
-{
-    Axiom::from_slice(list, Axiom::SIZE * k)
-}
+ghost use Rattle.change_contract.specs.Lists.{axiomsIn, among, ReadAt};
+ghost use Rattle.change_checks.specs.Reading.{Whole};
 
 // How many axioms two lists have.
 pub fn count(first: &[u8], second: &[u8]) -> usize

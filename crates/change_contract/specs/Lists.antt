@@ -1,12 +1,14 @@
 -- Lists of axioms as bytes (document 02, request Four): four for each, as in the catalogue, left and then right, low byte first. And the axioms in force
 -- after a change with two such lists.
 use Prim.Native.Nat.{ℕ, zero, suc, _+_, _*_, _/_}
+use mathlib.Core.Path.{_≡_}
 use mathlib.Core.Bool.{not, _&&_, _||_}
 use mathlib.Core.List.{List, [], _∷_, _++_}
 use lib.Dec.{eqb}
 use lib.ListN.{length}
 use Rattle.rows.specs.Bits.{someBelow}
 use Rattle.catalogue.specs.Words.{word}
+use Rattle.catalogue.specs.declared.records.Axiom.{Axiom}
 use Rattle.rules.specs.Axioms.{Axioms}
 
 -- How many axioms a list has, and the sides of axiom k, by its two numbers as they stand.
@@ -38,3 +40,8 @@ sidesIn list = sidesBelow list (axiomsIn list)
 -- The axioms in force after a change: F loses the one list's axioms and gains the other's.
 unfoldable pub edited : Axioms → (withdrawn added : List ℕ) → Axioms
 edited F withdrawn added c d = (F c d && not (listed withdrawn c d)) || listed added c d
+
+-- Axiom k of a list, read.
+pub record ReadAt (list : List ℕ) (k : ℕ) (a : Axiom) : Type 0 where
+  pub left-is : a .left ≡ leftIn list k
+  pub right-is : a .right ≡ rightIn list k

@@ -2,7 +2,7 @@
 use super::Classified;
 use super::closing::close;
 use axiom_rows::put_axioms;
-use buffered_change::buffers::table;
+use buffers::table;
 use catalogue::Verdict;
 use catalogue::check;
 use layout::Shape;

@@ -1,3 +1,4 @@
 pub mod ByteRows
 pub mod Seen
 pub mod RowBits
+pub mod Copies

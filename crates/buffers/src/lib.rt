@@ -3,7 +3,7 @@ use catalogue::Concept;
 use indexing::ROWS_END;
 ghost use Rattle.layout.specs.Limits.{maxWidth, maxOwn, maxTable, triplesLength};
 ghost use Rattle.indexing.specs.Index.{maxIndex};
-ghost use Rattle.buffered_change.specs.Zero.{Zero};
+ghost use Rattle.buffers.specs.Zero.{Zero};
 
 // A row, the rows of one partition, a table, a row with its index; a bit for each three roles.
 const ROW: usize = Concept::MAX / 8;

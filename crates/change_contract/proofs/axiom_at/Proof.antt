@@ -1,8 +1,8 @@
--- `lists::axiom_at` reads four bytes.
+-- `axiom_at` reads four bytes.
 use borrow.Author.Needs.{needs}
 use Rattle.change_contract.specs.Lists.{leftIn, rightIn}
-use Rattle.change_checks.proofs.lists.axiom_at.Statement.{statement}
-use Rattle.change_checks.proofs.lists.axiom_at.Tie as tie
+use Rattle.change_contract.proofs.axiom_at.Statement.{statement}
+use Rattle.change_contract.proofs.axiom_at.Tie as tie
 
 mul-from-slice : tie.Need-mul-from-slice
 mul-from-slice c = search needs
