@@ -12,18 +12,18 @@ _girvotal() {
             # The operands in order, each a file or none that is known, and the options.
             case $verb in
                 check) operands=(file) options=(--json --help) ;;
-                compile) operands=(file) options=(-o --json --help) ;;
+                compile) operands=(file) options=(-o --force --wait --json --help) ;;
                 text) operands=(file) options=(--exact --owl --json --help) ;;
-                classify) operands=(file) options=(-o --json --help) ;;
-                update) operands=(file file) options=(--dry-run --json --help) ;;
+                classify) operands=(file) options=(-o --force --wait --json --help) ;;
+                update) operands=(file file) options=(--dry-run --wait --json --help) ;;
                 lookup) operands=(file none none) options=(--json --help) ;;
                 list) operands=(file none) options=(--json --help) ;;
                 above) operands=(file none) options=(--json --help) ;;
-                tree) operands=(file) options=(--dot --html -o --json --help) ;;
-                change) operands=(file) options=(--out --in --json --help) ;;
-                add) operands=(file none) options=(--json --help) ;;
-                withdraw) operands=(file none) options=(--json --help) ;;
-                write) operands=(file) options=(-o --json --help) ;;
+                tree) operands=(file) options=(--dot --html -o --force --wait --json --help) ;;
+                change) operands=(file) options=(--out --in --wait --json --help) ;;
+                add) operands=(file none) options=(--wait --json --help) ;;
+                withdraw) operands=(file none) options=(--wait --json --help) ;;
+                write) operands=(file) options=(-o --force --wait --json --help) ;;
                 explain) operands=(none) options=(--json --help) ;;
                 *) return ;;
             esac
@@ -37,11 +37,19 @@ _girvotal() {
             # What follows an option.
             case "$verb $word" in
                 'compile -o') value='file' ;;
+                'compile --wait') value='none' ;;
                 'classify -o') value='file' ;;
+                'classify --wait') value='none' ;;
+                'update --wait') value='none' ;;
                 'tree -o') value='file' ;;
+                'tree --wait') value='none' ;;
                 'change --out') value='none' ;;
                 'change --in') value='none' ;;
+                'change --wait') value='none' ;;
+                'add --wait') value='none' ;;
+                'withdraw --wait') value='none' ;;
                 'write -o') value='file' ;;
+                'write --wait') value='none' ;;
             esac
         else
             place+=1

@@ -1,6 +1,7 @@
 //! The command's arguments, by the table of verbs.
 
 use std::ffi::{OsStr, OsString};
+use std::time::Duration;
 
 use crate::failure::Failure;
 use crate::not_utf8;
@@ -51,6 +52,9 @@ pub const OPTIONS: [Flag; 3] = [
     },
 ];
 
+/// How long a run waits for another one, unless `--wait` says it.
+const WAIT: Duration = Duration::from_secs(5);
+
 /// What the command is for.
 pub const DESCRIPTION: &str =
     "Says which kinds of a catalogue lie under which, and keeps that in step while axioms\n\
@@ -98,6 +102,21 @@ impl Given {
     /// Whether an option is given.
     pub fn has(&self, name: &str) -> bool {
         self.options.iter().any(|(given, _)| *given == name)
+    }
+
+    /// How long the run waits for another one.
+    pub fn wait(&self) -> Result<Duration, Failure> {
+        let Some(value) = self.values("--wait").last() else {
+            return Ok(WAIT);
+        };
+        let seconds = value.to_str().and_then(|text| text.parse().ok());
+        let wait = seconds.and_then(|seconds| Duration::try_from_secs_f64(seconds).ok());
+        let wrong = || {
+            let value = value.to_string_lossy();
+            let sentence = format!("`{value}` is no number of seconds; write `--wait 30`");
+            Failure::Usage(sentence)
+        };
+        wait.ok_or_else(wrong)
     }
 
     /// The values of an option, in order.

@@ -1,20 +1,23 @@
 //! Files read, and files made so that a run broken off at any step leaves the old or the new one.
 
 use std::ffi::{OsStr, OsString};
-use std::fs::{self, File, OpenOptions, Permissions};
+use std::fs::{self, File, Metadata, OpenOptions};
 use std::io::{self, ErrorKind, Write};
-use std::os::unix::fs::{OpenOptionsExt, PermissionsExt};
+use std::os::unix::fs::{fchown, MetadataExt, OpenOptionsExt};
 use std::path::{Path, PathBuf};
+use std::time::Duration;
 
 use crate::failure::Failure;
+use crate::lock::Lock;
+use crate::system::Held;
 use crate::Streams;
 
 /// A step of making a file.
 #[derive(Clone, Copy, Debug, PartialEq, Eq)]
 pub enum Step {
-    /// FILE.new is created, which no other run can while it is there.
+    /// FILE.girvotal-new is created; what a run that was killed left there is gone.
     Created,
-    /// It has the permissions of the file that it will replace.
+    /// It has the owner, group and permissions of the file that it will replace.
     Permitted,
     /// The first half of the bytes is written to it.
     HalfWritten,
@@ -70,82 +73,80 @@ pub fn put(output: &mut dyn Write, bytes: &[u8]) -> Result<(), Failure> {
     put.map_err(|error| cannot("write to", "standard output".as_ref(), &error))
 }
 
-/// Makes a file of these bytes; `-` is standard output.
-pub fn make(path: &OsStr, bytes: &[u8], streams: &mut Streams<'_>) -> Result<(), Failure> {
-    if is_stream(path) {
-        return put(streams.output, bytes);
-    }
-    Target::of(path, streams)?.save(bytes, streams)
-}
-
 fn cannot(what: &str, path: &OsStr, error: &io::Error) -> Failure {
-    Failure::File(format!("cannot {what} {}: {error}", path.to_string_lossy()))
+    let advice = match error.kind() {
+        ErrorKind::NotFound => "look at the name",
+        ErrorKind::PermissionDenied => "let someone do it who may",
+        ErrorKind::StorageFull | ErrorKind::QuotaExceeded => "make room",
+        ErrorKind::IsADirectory => "name a file in it",
+        _ => "try it elsewhere",
+    };
+    let path = path.to_string_lossy();
+    Failure::File(format!("cannot {what} {path}: {error}; {advice}"))
 }
 
-/// A file to be made. Where it is to replace a regular file, or there is none yet, no other run can
-/// make it from now on until this is dropped.
+/// A file to be made. Where it is to replace a plain file, or there is none yet, no other run can
+/// make one in its folder from now on until this is dropped.
 #[derive(Debug)]
 pub struct Target {
     path: PathBuf,
-    /// The file under another name; none where the target is a device or a pipe, which is written
-    /// to as it is.
-    new: Option<New>,
+    /// None where the target is a device or a pipe, which is written to as it is.
+    plain: Option<Plain>,
 }
 
-/// FILE.new, removed when dropped unless it has got the name FILE.
+/// A plain file to be made.
 #[derive(Debug)]
-struct New {
-    path: PathBuf,
-    file: File,
-    renamed: bool,
-}
-
-impl Drop for New {
-    fn drop(&mut self) {
-        if !self.renamed {
-            // Where it can't be removed, the next run says that it is there.
-            let _ = fs::remove_file(&self.path);
-        }
-    }
+struct Plain {
+    lock: Lock,
+    /// The file that it will replace.
+    old: Option<Metadata>,
 }
 
 impl Target {
-    /// Begins to make a file. A link is followed, also to a pipe, which has no path of its own.
-    pub fn of(path: &OsStr, streams: &Streams<'_>) -> Result<Target, Failure> {
+    /// Begins to make a file, for which it waits so long. A link is followed, also to a pipe, which
+    /// has no path of its own.
+    pub fn of(path: &OsStr, wait: Duration) -> Result<Target, Failure> {
         let mut path = PathBuf::from(path);
-        let old = fs::metadata(&path).ok();
-        if old.as_ref().is_some_and(|data| !data.is_file()) {
-            return Ok(Target { path, new: None });
+        if fs::metadata(&path).is_ok_and(|data| !data.is_file()) {
+            return Ok(Target { path, plain: None });
         }
         if fs::symlink_metadata(&path).is_ok_and(|data| data.is_symlink()) {
             let followed = fs::canonicalize(&path);
             path = followed.map_err(|error| cannot("follow", path.as_os_str(), &error))?;
         }
-        let permissions = old.map(|data| data.permissions());
-        let new = New::create(&path, permissions, streams.after)?;
-        Ok(Target {
-            path,
-            new: Some(new),
-        })
+        let lock = Lock::of(&path, wait)?;
+        let old = writable(&path).map_err(|error| cannot("write", path.as_os_str(), &error))?;
+        let plain = Some(Plain { lock, old });
+        Ok(Target { path, plain })
     }
 
     /// The same for a file that is read and made anew, and can't be a device or a pipe.
-    pub fn of_file(path: &OsStr, streams: &Streams<'_>) -> Result<Target, Failure> {
-        let target = Target::of(path, streams)?;
-        match target.new {
+    pub fn of_file(path: &OsStr, wait: Duration) -> Result<Target, Failure> {
+        let target = Target::of(path, wait)?;
+        match target.plain {
             Some(_) => Ok(target),
             None => Err(Failure::File(format!(
-                "{} is no plain file, and can't be changed",
+                "{} is no plain file, and can't be changed; name a state's file",
                 path.to_string_lossy()
             ))),
+        }
+    }
+
+    /// The bytes of the plain file that it will replace.
+    pub fn old(&self) -> Result<Option<Vec<u8>>, Failure> {
+        match &self.plain {
+            Some(Plain { old: Some(_), .. }) => fs::read(&self.path)
+                .map(Some)
+                .map_err(|error| cannot("read", self.path.as_os_str(), &error)),
+            _ => Ok(None),
         }
     }
 
     /// Writes the bytes and gives the file its name.
     pub fn save(self, bytes: &[u8], streams: &Streams<'_>) -> Result<(), Failure> {
         let path = self.path.as_path();
-        let saved = match self.new {
-            Some(new) => new.save(path, bytes, streams.after),
+        let saved = match &self.plain {
+            Some(plain) => plain.save(path, bytes, streams.after),
             None => OpenOptions::new()
                 .write(true)
                 .open(path)
@@ -155,56 +156,98 @@ impl Target {
     }
 }
 
+/// What is known of a file that may be written; nothing of one that is not there.
+fn writable(path: &Path) -> io::Result<Option<Metadata>> {
+    let data = match OpenOptions::new().write(true).open(path) {
+        Ok(file) => file.metadata()?,
+        Err(error) if error.kind() == ErrorKind::NotFound => return Ok(None),
+        Err(error) => return Err(error),
+    };
+    match data.permissions().readonly() {
+        // Those who may do anything are told as well.
+        true => Err(io::Error::new(
+            ErrorKind::PermissionDenied,
+            "it is write-protected",
+        )),
+        false => Ok(Some(data)),
+    }
+}
+
+impl Plain {
+    /// The steps; those before the new name are undone where one fails. Signals wait meanwhile.
+    fn save(&self, path: &Path, bytes: &[u8], after: &dyn Fn(Step)) -> io::Result<()> {
+        let _held = Held::back();
+        let mut new = New::create(path, self.old.is_some())?;
+        after(Step::Created);
+        if let Some(old) = &self.old {
+            new.keep(old)?;
+        }
+        after(Step::Permitted);
+        let (first, second) = bytes.split_at(bytes.len() / 2);
+        new.file.write_all(first)?;
+        after(Step::HalfWritten);
+        new.file.write_all(second)?;
+        after(Step::Written);
+        new.file.sync_all()?;
+        after(Step::Synced);
+        fs::rename(&new.path, path)?;
+        new.renamed = true;
+        after(Step::Renamed);
+        self.lock.sync()?;
+        after(Step::FolderSynced);
+        Ok(())
+    }
+}
+
+/// FILE.girvotal-new, removed when dropped unless it has got the name FILE.
+struct New {
+    path: PathBuf,
+    file: File,
+    renamed: bool,
+}
+
+impl Drop for New {
+    fn drop(&mut self) {
+        if !self.renamed {
+            // Where it can't be removed, the next run tries again.
+            let _ = fs::remove_file(&self.path);
+        }
+    }
+}
+
 impl New {
-    /// Creates it, for those alone who may use the file that it will replace.
-    fn create(
-        target: &Path,
-        permissions: Option<Permissions>,
-        after: &dyn Fn(Step),
-    ) -> Result<New, Failure> {
-        let mut name = OsString::from(target);
-        name.push(".new");
-        let path = PathBuf::from(name);
-        let mode = permissions.as_ref().map_or(0o666, Permissions::mode);
+    /// Creates it; what is there was left by a run that was killed, for this one has the lock.
+    /// Until it has the old one's permissions, where there is one, nobody else may use it.
+    fn create(target: &Path, replaces: bool) -> io::Result<New> {
+        let mut path = OsString::from(target);
+        path.push(".girvotal-new");
+        let path = PathBuf::from(path);
+        match fs::remove_file(&path) {
+            Err(error) if error.kind() != ErrorKind::NotFound => return Err(error),
+            _ => {}
+        }
         let mut options = OpenOptions::new();
-        let created = options.write(true).create_new(true).mode(mode).open(&path);
-        let file = created.map_err(|error| match error.kind() {
-            ErrorKind::AlreadyExists => Failure::File(format!(
-                "{} exists: another change is under way, or one was broken off; if none runs, \
-                 remove it",
-                path.display()
-            )),
-            _ => cannot("create", path.as_os_str(), &error),
-        })?;
+        options.write(true).create_new(true);
+        let mode = if replaces { 0o600 } else { 0o666 };
+        let file = options.mode(mode).open(&path)?;
         let renamed = false;
-        let new = New {
+        Ok(New {
             path,
             file,
             renamed,
-        };
-        after(Step::Created);
-        if let Some(permissions) = permissions {
-            let permitted = new.file.set_permissions(permissions);
-            permitted.map_err(|error| cannot("write", new.path.as_os_str(), &error))?;
-        }
-        after(Step::Permitted);
-        Ok(new)
+        })
     }
 
-    fn save(mut self, target: &Path, bytes: &[u8], after: &dyn Fn(Step)) -> io::Result<()> {
-        let (first, second) = bytes.split_at(bytes.len() / 2);
-        self.file.write_all(first)?;
-        after(Step::HalfWritten);
-        self.file.write_all(second)?;
-        after(Step::Written);
-        self.file.sync_all()?;
-        after(Step::Synced);
-        fs::rename(&self.path, target)?;
-        self.renamed = true;
-        after(Step::Renamed);
-        let folder = target.parent().filter(|folder| *folder != Path::new(""));
-        File::open(folder.unwrap_or(Path::new(".")))?.sync_all()?;
-        after(Step::FolderSynced);
-        Ok(())
+    /// Gives it the owner, group and permissions of the file that it will replace.
+    fn keep(&self, old: &Metadata) -> io::Result<()> {
+        let new = self.file.metadata()?;
+        if (new.uid(), new.gid()) != (old.uid(), old.gid()) {
+            fchown(&self.file, Some(old.uid()), Some(old.gid())).map_err(|error| {
+                let (user, group) = (old.uid(), old.gid());
+                let what = format!("it can't stay with user {user} and group {group}: {error}");
+                io::Error::new(error.kind(), what)
+            })?;
+        }
+        self.file.set_permissions(old.permissions())
     }
 }

@@ -3,20 +3,24 @@
 //! - [`text`]: catalogues as text: compiled, and printed
 //! - [`state`]: the state file
 //! - [`files`]: files read, and made so that a broken-off run leaves the old or the new one
+//! - [`system`]: signals held back meanwhile, and whether standard output was closed
 //! - [`verbs`]: the table of verbs, and what each does
 //! - [`manual`], [`completion`]: the manual page and bash's completion, made from that table
 //! - [`run`]: one run of the command
 
 #![warn(missing_docs)]
-#![forbid(unsafe_code)]
+#![deny(unsafe_code)]
 
 pub mod arguments;
 pub mod completion;
 pub mod failure;
 pub mod files;
 pub mod json;
+mod lock;
 pub mod manual;
 pub mod state;
+#[allow(unsafe_code)]
+pub mod system;
 pub mod text;
 pub mod verbs;
 
@@ -96,5 +100,6 @@ fn print(text: String, json: Json, as_json: bool) -> String {
 
 /// The failure of an argument that is not UTF-8.
 fn not_utf8(argument: &std::ffi::OsStr) -> Failure {
-    Failure::Usage(format!("`{}` is not UTF-8", argument.to_string_lossy()))
+    let argument = argument.to_string_lossy();
+    Failure::Usage(format!("`{argument}` is not UTF-8; write it so"))
 }

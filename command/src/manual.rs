@@ -37,10 +37,9 @@ const FILES: [(&str, &str); 4] = [
         "names, catalogue and store of a classified catalogue",
     ),
     (
-        "FILE.new",
-        "FILE while it is made. It is the lock as well: while it is there, another run that would\n\
-         change FILE ends with 4 and says so. A run that was killed leaves it behind; if no other\n\
-         runs, remove it.",
+        "FILE.girvotal-new",
+        "FILE while it is made. A run that was killed may leave it behind; the next one that makes\n\
+         FILE takes it over.",
     ),
 ];
 

@@ -215,7 +215,7 @@ fn completion_in_bash() {
         (&["lookup", "lake.state", "ta"], &[]),
         (
             &["change", "lake.state", "--out", "tap < water", "--"],
-            &["--out", "--in", "--json", "--help"],
+            &["--out", "--in", "--wait", "--json", "--help"],
         ),
         (&["change", "lake.state", "--out", "--in", "--i"], &["--in"]),
     ] {

@@ -20,38 +20,39 @@ type Side = (Expression, Expression);
 /// `change STATE [--out 'A < B'].. [--in 'A < B']..`
 pub fn change(given: &Given, streams: &mut Streams<'_>) -> Result<Report, Failure> {
     let (out, new) = (given.values("--out"), given.values("--in"));
-    changed(given.operand(0), out.collect(), new.collect(), streams)
+    changed(given, out.collect(), new.collect(), streams)
 }
 
 /// `add STATE 'A < B'`
 pub fn add(given: &Given, streams: &mut Streams<'_>) -> Result<Report, Failure> {
-    changed(given.operand(0), vec![], vec![given.operand(1)], streams)
+    changed(given, vec![], vec![given.operand(1)], streams)
 }
 
 /// `withdraw STATE 'A < B'`
 pub fn withdraw(given: &Given, streams: &mut Streams<'_>) -> Result<Report, Failure> {
-    changed(given.operand(0), vec![given.operand(1)], vec![], streams)
+    changed(given, vec![given.operand(1)], vec![], streams)
 }
 
 /// A state that is to be changed: no other run changes it before the target is saved or dropped.
-pub fn locked(path: &OsStr, streams: &mut Streams<'_>) -> Result<(Target, State), Failure> {
+pub fn locked(given: &Given, streams: &mut Streams<'_>) -> Result<(Target, State), Failure> {
+    let path = given.operand(0);
     if files::is_stream(path) {
         return Err(Failure::Usage(
-            "a state that is changed is a file, not `-`".into(),
+            "a state that is changed is a file, not `-`; name one".into(),
         ));
     }
-    let target = Target::of_file(path, streams)?;
+    let target = Target::of_file(path, given.wait()?)?;
     let bytes = files::read(path, streams)?;
     Ok((target, state(path, &bytes)?))
 }
 
 fn changed(
-    path: &OsStr,
+    given: &Given,
     out: Vec<&OsStr>,
     new: Vec<&OsStr>,
     streams: &mut Streams<'_>,
 ) -> Result<Report, Failure> {
-    let (target, mut state) = locked(path, streams)?;
+    let (target, mut state) = locked(given, streams)?;
     let (out, new) = (sides(&out, &state)?, sides(&new, &state)?);
     let withdrawn = in_force(&out, &state)?;
     let added = recorded(&new, &mut state)?;

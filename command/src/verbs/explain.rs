@@ -10,7 +10,10 @@ use crate::{Report, Streams};
 /// `explain N`
 pub fn explain(given: &Given, _: &mut Streams<'_>) -> Result<Report, Failure> {
     let text = given.text(0)?;
-    let unknown = || Failure::Usage(format!("no refusal has the number `{text}`"));
+    let unknown = || {
+        let known = "they are 1 to 20, 22, 23 and 65535";
+        Failure::Usage(format!("no refusal has the number `{text}`; {known}"))
+    };
     let result: usize = text.parse().map_err(|_| unknown())?;
     if result == 0 {
         let json = Json::Object(vec![("number", 0.into()), ("sentence", "accepted".into())]);

@@ -2,10 +2,11 @@
 
 use girvotal::{Catalogue, Record};
 
+use super::format::Format;
 use super::{count, read_any, read_state, read_text, shown};
 use crate::arguments::Given;
 use crate::failure::Failure;
-use crate::files;
+use crate::files::{self, Target};
 use crate::json::Json;
 use crate::state::State;
 use crate::text::{self, Compiled};
@@ -59,27 +60,38 @@ fn told(catalogue: &[u8]) -> Result<Report, Failure> {
     Ok(Report::done(text, Json::Object(amounts.fields())))
 }
 
-/// Makes the file of `-o`, which must not be the one that is read. Where it is standard output,
-/// nothing else goes there.
+/// Makes the file of `-o`, which must not be the one that is read, nor hold something else unless
+/// that is forced. Where it is standard output, nothing else goes there.
 pub fn made(
     given: &Given,
-    bytes: &[u8],
-    mut report: Report,
+    (format, bytes): (Format, &[u8]),
+    report: Report,
     streams: &mut Streams<'_>,
 ) -> Result<Report, Failure> {
-    let source = given.operand(0);
-    for path in given.values("-o") {
-        if files::same(source, path) {
-            let path = shown(path);
-            return Err(Failure::Usage(format!(
-                "{path} would be replaced by its own output"
-            )));
-        }
-        files::make(path, bytes, streams)?;
-        if files::is_stream(path) {
-            report = Report::done(String::new(), Json::Nothing);
-        }
+    let Some(path) = given.values("-o").next() else {
+        return Ok(report);
+    };
+    if files::is_stream(path) {
+        files::put(streams.output, bytes)?;
+        return Ok(Report::done(String::new(), Json::Nothing));
     }
+    if files::same(given.operand(0), path) {
+        return Err(Failure::Usage(format!(
+            "{} would be replaced by its own output; name another file",
+            shown(path)
+        )));
+    }
+    let target = Target::of(path, given.wait()?)?;
+    let old = target.old()?.unwrap_or_default();
+    if let Some(found) = format.replaces(&old).filter(|_| !given.has("--force")) {
+        return Err(Failure::Usage(format!(
+            "{} is {}, and would be replaced by {}; name another file, or add `--force`",
+            shown(path),
+            found.what(),
+            format.what()
+        )));
+    }
+    target.save(bytes, streams)?;
     Ok(report)
 }
 
@@ -91,7 +103,8 @@ pub fn check(given: &Given, streams: &mut Streams<'_>) -> Result<Report, Failure
 /// `compile TEXT -o CATALOGUE`
 pub fn compile(given: &Given, streams: &mut Streams<'_>) -> Result<Report, Failure> {
     let Compiled { catalogue, .. } = read_text(given.operand(0), streams)?;
-    made(given, &catalogue, told(&catalogue)?, streams)
+    let report = told(&catalogue)?;
+    made(given, (Format::Catalogue, &catalogue), report, streams)
 }
 
 /// `text FILE [--exact | --owl]`
@@ -99,7 +112,7 @@ pub fn text(given: &Given, streams: &mut Streams<'_>) -> Result<Report, Failure>
     let (exact, owl) = (given.has("--exact"), given.has("--owl"));
     if exact && owl {
         return Err(Failure::Usage(
-            "only one of `--exact` and `--owl` can be given".into(),
+            "only one of `--exact` and `--owl` can be given; leave one out".into(),
         ));
     }
     let Compiled { catalogue, names } = read_any(given.operand(0), streams)?;
@@ -124,11 +137,12 @@ pub fn classify(given: &Given, streams: &mut Streams<'_>) -> Result<Report, Fail
         ("links", counts.links.into()),
     ]);
     let report = Report::done(text, Json::Object(fields));
-    made(given, &state.bytes(), report, streams)
+    made(given, (Format::State, &state.bytes()), report, streams)
 }
 
 /// `write STATE -o CATALOGUE`
 pub fn write(given: &Given, streams: &mut Streams<'_>) -> Result<Report, Failure> {
     let catalogue = read_state(given.operand(0), streams)?.site.write()?;
-    made(given, &catalogue, told(&catalogue)?, streams)
+    let report = told(&catalogue)?;
+    made(given, (Format::Catalogue, &catalogue), report, streams)
 }

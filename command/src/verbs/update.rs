@@ -18,7 +18,7 @@ pub fn update(given: &Given, streams: &mut Streams<'_>) -> Result<Report, Failur
     let (path, text) = (given.operand(0), given.operand(1));
     if files::is_stream(path) && files::is_stream(text) {
         return Err(Failure::Usage(
-            "only one of STATE and TEXT can be `-`".into(),
+            "only one of STATE and TEXT can be `-`; name the other's file".into(),
         ));
     }
     // First the text, which may be slow to come: no lock is held meanwhile.
@@ -26,7 +26,7 @@ pub fn update(given: &Given, streams: &mut Streams<'_>) -> Result<Report, Failur
     let (target, old) = match given.has("--dry-run") {
         true => (None, read_state(path, streams)?),
         false => {
-            let (target, old) = changes::locked(path, streams)?;
+            let (target, old) = changes::locked(given, streams)?;
             (Some(target), old)
         }
     };

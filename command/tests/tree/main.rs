@@ -141,14 +141,14 @@ fn files() {
     let folder = Folder::with_lake();
     for option in ["", "--dot", "--html"] {
         let printed = folder.done(&format!("tree lake.state {option}"));
-        let told = folder.done(&format!("tree lake.state {option} -o made"));
+        let told = folder.done(&format!("tree lake.state {option} -o made --force"));
         assert_eq!(told, "9 kinds, 9 entries\n");
         assert_eq!(folder.read("made"), printed.as_bytes());
         assert_eq!(
             folder.done(&format!("tree lake.state {option} -o -")),
             printed
         );
-        let told = folder.done(&format!("tree lake.state {option} -o made --json"));
+        let told = folder.done(&format!("tree lake.state {option} -o made --force --json"));
         assert_eq!(told, folder.done("tree lake.state --json"));
         if !option.is_empty() {
             let object = folder.done(&format!("tree lake.state {option} --json"));
@@ -173,12 +173,12 @@ fn files() {
         (
             "tree lake.state --dot --html",
             3,
-            "only one of `--dot` and `--html` can be given".into(),
+            "only one of `--dot` and `--html` can be given; leave one out".into(),
         ),
         (
             "tree lake.state -o lake.state",
             3,
-            "lake.state would be replaced by its own output".into(),
+            "lake.state would be replaced by its own output; name another file".into(),
         ),
         (
             "tree lake.gv",

@@ -1,13 +1,14 @@
 //! Files and streams: trouble with them, links, permissions.
 
 use std::fs::{self, File};
-use std::os::unix::fs::{FileTypeExt, PermissionsExt};
+use std::os::unix::fs::{chown, FileTypeExt, MetadataExt, PermissionsExt};
+use std::os::unix::process::CommandExt;
 use std::path::Path;
 use std::process::Stdio;
 
 use girvotal_command::verbs::VERBS;
 
-use crate::support::{told, words, Folder};
+use crate::support::{say, told, words, Folder};
 
 #[test]
 fn file_trouble() {
@@ -27,7 +28,7 @@ fn file_trouble() {
         ),
         (
             "classify lake.gv -o no/lake.state",
-            format!("cannot create no/lake.state.new: {missing}"),
+            format!("cannot write no/lake.state: cannot lock its folder no: {missing}"),
         ),
         (
             "list lake.gv pitch",
@@ -52,11 +53,11 @@ fn file_trouble() {
         let (status, output, errors) = folder.run(line);
         assert_eq!((status, output.as_str()), (4, ""), "{line}");
         assert!(
-            errors.starts_with(&format!("girvotal: {sentence}")),
+            errors.starts_with(&format!("girvotal: {sentence}")) && errors.contains("; "),
             "{line}: {errors}"
         );
     }
-    assert!(!folder.has("none.state.new"));
+    assert!(!folder.has("none.state.girvotal-new"));
 }
 
 /// Every verb that prints, with standard output on a full device.
@@ -110,7 +111,7 @@ fn full_device() {
     assert_eq!((status, errors.as_str()), (0, ""));
     assert_eq!(folder.read("piped"), folder.read("w1.bin"));
     let pipe = fs::metadata(folder.path.join("pipe")).expect("still there");
-    assert!(pipe.file_type().is_fifo() && !folder.has("pipe.new"));
+    assert!(pipe.file_type().is_fifo() && !folder.has("pipe.girvotal-new"));
     for line in [
         "compile lake.gv -o /dev/full",
         "classify lake.gv -o /dev/full",
@@ -123,7 +124,7 @@ fn full_device() {
         );
     }
     let device = fs::metadata("/dev/full").expect("still there").file_type();
-    assert!(device.is_char_device() && !Path::new("/dev/full.new").exists());
+    assert!(device.is_char_device() && !Path::new("/dev/full.girvotal-new").exists());
 }
 
 #[test]
@@ -175,4 +176,133 @@ fn links_and_permissions() {
             .0,
         1
     );
+}
+
+/// A state keeps its owner, group and mode, or nothing is changed.
+#[test]
+fn owners() {
+    let folder = Folder::with_lake();
+    let path = folder.path.join("lake.state");
+    let line = "withdraw lake.state 'tap < supplies some water'";
+    let who = |path: &Path| {
+        let data = fs::metadata(path).expect("the state");
+        (data.uid(), data.gid(), data.mode() & 0o7777)
+    };
+    if who(&path).0 != 0 {
+        say("files: not run by root, so no file is given to another user");
+        return;
+    }
+    chown(&path, Some(1234), Some(5678)).expect("another owner");
+    fs::set_permissions(&path, fs::Permissions::from_mode(0o664)).expect("permissions");
+    folder.done(line);
+    assert_eq!(who(&path), (1234, 5678, 0o664));
+    // Another user may write it, but can't give away what it makes.
+    let before = folder.read("lake.state");
+    fs::set_permissions(&path, fs::Permissions::from_mode(0o666)).expect("permissions");
+    fs::set_permissions(&folder.path, fs::Permissions::from_mode(0o777)).expect("permissions");
+    let add = line.replace("withdraw", "add");
+    let mut command = folder.command(&words(&add));
+    let output = command.uid(4321).gid(4321).output().expect("a run");
+    let error = "girvotal: cannot write lake.state: it can't stay with user 1234 and group 5678: \
+                 Operation not permitted (os error 1); let someone do it who may\n";
+    assert_eq!(told(output), (4, String::new(), error.to_string()));
+    assert!(before == folder.read("lake.state") && !folder.has("lake.state.girvotal-new"));
+    // Its owner can.
+    let mut command = folder.command(&words(&add));
+    let output = command.uid(1234).gid(5678).output().expect("a run");
+    assert_eq!(told(output).0, 0);
+    assert_eq!(who(&path), (1234, 5678, 0o666));
+}
+
+/// A state that may not be written is refused, and left as it is.
+#[test]
+fn write_protected() {
+    let folder = Folder::with_lake();
+    let before = folder.read("lake.state");
+    let path = folder.path.join("lake.state");
+    fs::set_permissions(&path, fs::Permissions::from_mode(0o444)).expect("permissions");
+    for line in [
+        "withdraw lake.state 'tap < supplies some water'",
+        "update lake.state w1.gv",
+        "classify w1.gv -o lake.state",
+    ] {
+        let (status, output, errors) = folder.run(line);
+        assert_eq!((status, output.as_str()), (4, ""), "{line}");
+        assert!(
+            errors.starts_with("girvotal: cannot write lake.state: "),
+            "{line}: {errors}"
+        );
+    }
+    assert!(before == folder.read("lake.state"));
+    folder.done("update lake.state w1.gv --dry-run");
+}
+
+/// `-o` replaces what it makes, and nothing else without `--force`.
+#[test]
+fn other_files() {
+    let folder = Folder::with_lake();
+    folder.done("compile lake.gv -o lake.bin");
+    folder.done("tree lake.state -o lake.tree");
+    folder.done("tree lake.state --html -o lake.html");
+    folder.done("tree lake.state --dot -o lake.dot");
+    folder.write("photo.jpg", [0xFF, 0xD8, 0, 1]);
+    folder.write("notes.txt", "Wash house\n\n   closed\n");
+    folder.write("empty", "");
+    let files = [
+        ("w1.gv", "a text"),
+        ("lake.bin", "a catalogue"),
+        ("lake.state", "a state"),
+        ("lake.tree", "a tree"),
+        ("lake.html", "a page"),
+        ("lake.dot", "a graph"),
+        ("photo.jpg", "something else"),
+        ("notes.txt", "something else"),
+    ];
+    folder.done("classify lake.gv -o source");
+    let lines = [
+        ("compile campsite.gv -o", "a catalogue"),
+        ("write source -o", "a catalogue"),
+        ("classify campsite.gv -o", "a state"),
+        ("tree source -o", "a tree"),
+        ("tree source --html -o", "a page"),
+        ("tree source --dot -o", "a graph"),
+    ];
+    for (line, makes) in lines {
+        for (file, is) in files {
+            let before = folder.read(file);
+            let (status, _, errors) = folder.run(&format!("{line} {file}"));
+            if is == makes {
+                assert_eq!((status, errors.as_str()), (0, ""), "{line} {file}");
+            } else {
+                let sentence = format!(
+                    "girvotal: {file} is {is}, and would be replaced by {makes}; name another \
+                     file, or add `--force`\n"
+                );
+                assert_eq!((status, errors), (3, sentence), "{line} {file}");
+                assert!(before == folder.read(file), "{line} {file}");
+                folder.done(&format!("{line} {file} --force"));
+                folder.write(file, before);
+            }
+        }
+        folder.write("empty", "");
+        folder.done(&format!("{line} empty"));
+    }
+}
+
+/// A standard output that is closed is one that can't be written to.
+#[test]
+fn closed_output() {
+    let folder = Folder::with_lake();
+    for line in [
+        "check lake.gv",
+        "lookup lake.state tap tap",
+        "--help",
+        "list lake.state tap",
+    ] {
+        let error = "girvotal: cannot write to standard output: it is closed; try it elsewhere\n";
+        let ended = folder.shell(&format!("girvotal {line} >&-"));
+        assert_eq!(ended, (4, String::new(), error.to_string()), "{line}");
+        let (status, _, errors) = folder.shell(&format!("girvotal {line} > /dev/null <&-"));
+        assert_eq!((status, errors.as_str()), (0, ""), "{line}");
+    }
 }

@@ -79,7 +79,7 @@ fn refusals() {
         before == folder.read("lake.state"),
         "a refused change leaves the state"
     );
-    assert!(!folder.has("lake.state.new") && !folder.has("kind.state"));
+    assert!(!folder.has("lake.state.girvotal-new") && !folder.has("kind.state"));
 }
 
 /// Full, by 17: every axiom that 64 kinds can have is 4,096.

@@ -95,7 +95,8 @@ fn crafted_states() {
         }
         assert_eq!(State::read(&crafted).err().as_deref(), Some(sentence));
         folder.write("crafted.state", &crafted);
-        let error = format!("girvotal: crafted.state is damaged: {sentence}\n");
+        let error =
+            format!("girvotal: crafted.state is damaged: {sentence}; classify its text again\n");
         check(&folder, &[("list crafted.state pillar", 4, "", &error)]);
     }
     let mut changed = bytes.clone();

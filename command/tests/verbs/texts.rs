@@ -33,7 +33,7 @@ fn wrong_texts() {
         );
     }
     assert!(before == folder.read("lake.state") && !folder.has("made.bin"));
-    assert!(!folder.has("lake.state.new"));
+    assert!(!folder.has("lake.state.girvotal-new"));
     check(
         &folder,
         &[

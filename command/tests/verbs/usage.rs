@@ -35,32 +35,32 @@ fn usage() {
         ),
         (
             "text lake.gv --exact --owl",
-            "only one of `--exact` and `--owl` can be given",
+            "only one of `--exact` and `--owl` can be given; leave one out",
         ),
-        ("add - 'tap < water'", "a state that is changed is a file, not `-`"),
+        ("add - 'tap < water'", "a state that is changed is a file, not `-`; name one"),
         (
             "compile lake.gv -o lake.gv",
-            "lake.gv would be replaced by its own output",
+            "lake.gv would be replaced by its own output; name another file",
         ),
         (
             "classify w1.bin -o ./w1.bin",
-            "./w1.bin would be replaced by its own output",
+            "./w1.bin would be replaced by its own output; name another file",
         ),
         (
             "write lake.state -o lake.state",
-            "lake.state would be replaced by its own output",
+            "lake.state would be replaced by its own output; name another file",
         ),
         (
             "check w1.bin",
-            "w1.bin is a catalogue, and a text is meant here",
+            "w1.bin is a catalogue, and a text is meant here; `girvotal text w1.bin` prints one",
         ),
         (
             "update lake.state lake.state",
-            "lake.state is a state, and a text is meant here",
+            "lake.state is a state, and a text is meant here; `girvotal text lake.state` prints one",
         ),
         (
             "update - - --dry-run",
-            "only one of STATE and TEXT can be `-`",
+            "only one of STATE and TEXT can be `-`; name the other's file",
         ),
         (
             "lookup lake.state pitch pitch pitch",
@@ -70,9 +70,9 @@ fn usage() {
             "lookup lake.state -- pitch --json pitch",
             "lookup takes STATE A B; usage: girvotal lookup STATE A B",
         ),
-        ("explain 21", "no refusal has the number `21`"),
-        ("explain nineteen", "no refusal has the number `nineteen`"),
-        ("explain 65555", "no refusal has the number `65555`"),
+        ("explain 21", "no refusal has the number `21`; they are 1 to 20, 22, 23 and 65535"),
+        ("explain nineteen", "no refusal has the number `nineteen`; they are 1 to 20, 22, 23 and 65535"),
+        ("explain 65555", "no refusal has the number `65555`; they are 1 to 20, 22, 23 and 65535"),
     ];
     for (line, sentence) in cases {
         check(

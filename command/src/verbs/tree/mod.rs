@@ -7,6 +7,7 @@ mod html;
 use std::ffi::OsStr;
 use std::path::Path;
 
+use super::format::Format;
 use super::{count, listed, read_state, texts};
 use crate::arguments::Given;
 use crate::failure::Failure;
@@ -20,20 +21,20 @@ pub fn tree(given: &Given, streams: &mut Streams<'_>) -> Result<Report, Failure>
     let (as_dot, as_html) = (given.has("--dot"), given.has("--html"));
     if as_dot && as_html {
         return Err(Failure::Usage(
-            "only one of `--dot` and `--html` can be given".into(),
+            "only one of `--dot` and `--html` can be given; leave one out".into(),
         ));
     }
     let state = read_state(given.operand(0), streams)?;
     let tree = Tree::of(&state)?;
-    let picture = match (as_dot, as_html) {
-        (true, _) => dot::graph(&tree),
-        (_, true) => html::page(&tree, &title(given.operand(0))),
-        _ => text(&tree),
+    let (format, picture) = match (as_dot, as_html) {
+        (true, _) => (Format::Graph, dot::graph(&tree)),
+        (_, true) => (Format::Page, html::page(&tree, &title(given.operand(0)))),
+        _ => (Format::Tree, text(&tree)),
     };
     let mut fields = vec![("entries", entries(&tree))];
     if given.has("-o") {
         let made = Report::done(amounts(&tree) + "\n", Json::Object(fields));
-        return texts::made(given, picture.as_bytes(), made, streams);
+        return texts::made(given, (format, picture.as_bytes()), made, streams);
     }
     if as_dot || as_html {
         fields.push(("text", picture.as_str().into()));
