@@ -17,12 +17,14 @@ _girvotal() {
                 classify) operands=(file) options=(-o --force --wait --json --help) ;;
                 update) operands=(file file) options=(--dry-run --wait --json --help) ;;
                 lookup) operands=(file none none) options=(--json --help) ;;
-                list) operands=(file none) options=(--json --help) ;;
-                above) operands=(file none) options=(--json --help) ;;
+                list) operands=(file none) options=(--direct --json --help) ;;
+                above) operands=(file none) options=(--direct --json --help) ;;
+                query) operands=(file none) options=(--json --help) ;;
+                diff) operands=(file file) options=(--json --help) ;;
                 tree) operands=(file) options=(--dot --html -o --force --wait --json --help) ;;
-                change) operands=(file) options=(--out --in --wait --json --help) ;;
-                add) operands=(file none) options=(--wait --json --help) ;;
-                withdraw) operands=(file none) options=(--wait --json --help) ;;
+                change) operands=(file) options=(--out --in --touched --dry-run --wait --json --help) ;;
+                add) operands=(file none) options=(--touched --dry-run --wait --json --help) ;;
+                withdraw) operands=(file none) options=(--touched --dry-run --wait --json --help) ;;
                 write) operands=(file) options=(-o --force --wait --json --help) ;;
                 explain) operands=(none) options=(--json --help) ;;
                 *) return ;;
@@ -56,7 +58,7 @@ _girvotal() {
         fi
     done
     if [[ -z $verb ]]; then
-        wanted='check compile text classify update lookup list above tree change add withdraw write explain --help --version --json'
+        wanted='check compile text classify update lookup list above query diff tree change add withdraw write explain --help --version --json'
     elif [[ -n $value ]]; then
         wanted=$value
     elif [[ -z $ended && ($current == -* || $place -ge ${#operands[@]}) ]]; then

@@ -38,7 +38,7 @@ pub const OPTIONS: [Flag; 3] = [
     Flag {
         name: "--help",
         value: "",
-        help: "print help; after a verb, its own",
+        help: "print help; after a verb, its own, as `help VERB` does",
     },
     Flag {
         name: "--version",
@@ -88,6 +88,11 @@ pub struct Given {
 }
 
 impl Given {
+    /// How many operands there are.
+    pub fn operands(&self) -> usize {
+        self.operands.len()
+    }
+
     /// The operand of a number; the table says how many there are.
     pub fn operand(&self, number: usize) -> &OsStr {
         &self.operands[number]
@@ -139,23 +144,50 @@ impl Request {
         };
         let name = first.to_str().ok_or_else(|| not_utf8(first))?;
         match name {
-            "--help" | "-h" | "help" => return Ok(Request::Print(overview())),
+            "--help" | "-h" => return Ok(Request::Print(overview())),
             "--version" | "-V" => return Ok(Request::Print(version())),
             _ => {}
         }
-        let Some(verb) = VERBS.iter().find(|verb| verb.name == name) else {
-            let names = VERBS.iter().map(|verb| verb.name);
-            return Err(Failure::Usage(format!(
-                "`{name}` is no verb; `girvotal --help` lists them{}",
-                meant(name, names)
-            )));
-        };
         let at = arguments.iter().position(|argument| argument == first);
         let rest = &arguments[at.map_or(0, |at| at + 1)..];
+        if name == "help" {
+            return help(rest).map(Request::Print);
+        }
+        let verb = verb(name)?;
         if options(rest).any(|argument| argument == "--help" || argument == "-h") {
             return Ok(Request::Print(verb.help()));
         }
         Ok(Request::Verb(verb, verb.given(rest)?))
+    }
+}
+
+/// The verb of a name.
+fn verb(name: &str) -> Result<&'static Verb, Failure> {
+    let unknown = || {
+        let meant = meant(name, VERBS.iter().map(|verb| verb.name));
+        Failure::Usage(format!(
+            "`{name}` is no verb; `girvotal --help` lists them{meant}"
+        ))
+    };
+    let mut verbs = VERBS.iter();
+    verbs.find(|verb| verb.name == name).ok_or_else(unknown)
+}
+
+/// `help`, `help VERB`
+fn help(arguments: &[OsString]) -> Result<String, Failure> {
+    let mut words = arguments.iter().filter(|argument| *argument != "--json");
+    match (words.next(), words.next()) {
+        (None, _) => Ok(overview()),
+        (Some(name), None) => {
+            let name = name.to_str().ok_or_else(|| not_utf8(name))?;
+            match name {
+                "help" | "--help" | "-h" => Ok(overview()),
+                _ => Ok(verb(name)?.help()),
+            }
+        }
+        _ => Err(Failure::Usage(
+            "help takes one verb; usage: girvotal help [VERB]".into(),
+        )),
     }
 }
 
@@ -243,11 +275,14 @@ impl Verb {
                 given.operands.extend(rest.by_ref().cloned());
             } else if !argument.to_string_lossy().starts_with('-') || argument == "-" {
                 given.operands.push(argument.clone());
-            } else if argument != "--json" {
+            } else if argument == "--json" {
+                given.options.push(("--json", OsString::new()));
+            } else {
                 given.options.push(self.option(argument, &mut rest)?);
             }
         }
-        if given.operands.len() != self.operands.len() {
+        let most = self.operands.len();
+        if !(most - self.optional..=most).contains(&given.operands.len()) {
             let names = self.operands.join(" ");
             return Err(self.misused(&format!("{} takes {names}", self.name), ""));
         }

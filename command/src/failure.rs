@@ -34,9 +34,10 @@ impl Failure {
     /// A refusal with something to add to its sentence.
     pub fn refused(refusal: Refusal, detail: &str) -> Failure {
         let parted = if detail.is_empty() { "" } else { ": " };
+        let advice = advice(refusal.question);
         Failure::Refused {
             question: refusal.question,
-            sentence: format!("{refusal}{parted}{detail}"),
+            sentence: format!("{refusal}{parted}{detail}; {advice}"),
         }
     }
 
@@ -68,6 +69,21 @@ impl Failure {
             Failure::File(sentence) => ("file", sentence.as_str().into()),
         };
         Json::Object(vec![(name, value)])
+    }
+}
+
+/// What to do about a refusal, with the command.
+pub fn advice(question: Question) -> &'static str {
+    match question {
+        Question::Counts => "drop what nothing uses, or make two catalogues of it",
+        Question::InForce => "leave it out",
+        Question::NotInForce => "`girvotal text STATE` prints those in force",
+        Question::Full => "withdraw some first",
+        Question::Occurs => "`girvotal query STATE 'EXPR'` says which kinds meet an expression",
+        Question::Whole => "make several changes, or `girvotal update STATE TEXT`",
+        Question::Twice => "name it once",
+        Question::Spare | Question::Limit => "classify its text again",
+        _ => "make the file again, by `girvotal compile` or by what wrote it",
     }
 }
 

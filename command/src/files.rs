@@ -73,7 +73,8 @@ pub fn put(output: &mut dyn Write, bytes: &[u8]) -> Result<(), Failure> {
     put.map_err(|error| cannot("write to", "standard output".as_ref(), &error))
 }
 
-fn cannot(what: &str, path: &OsStr, error: &io::Error) -> Failure {
+/// The failure of what can't be done with a file, with what to do.
+pub fn cannot(what: &str, path: &OsStr, error: &io::Error) -> Failure {
     let advice = match error.kind() {
         ErrorKind::NotFound => "look at the name",
         ErrorKind::PermissionDenied => "let someone do it who may",

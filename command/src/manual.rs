@@ -10,8 +10,8 @@ $ girvotal classify lake.gv -o lake.state
 $ girvotal lookup lake.state 'Seeplatz Süd' comfort-pitch
 yes
 $ girvotal withdraw lake.state 'tap < supplies some water'
-removed 30, returned 16, gained 0
-touched: \"Seeplatz Süd\", tap
+- \"Seeplatz Süd\" < comfort-pitch
+1 lost, 0 gained; one change: 1 axiom out, 0 in
 $ girvotal lookup lake.state 'Seeplatz Süd' comfort-pitch
 no
 $ girvotal update lake.state lake.gv

@@ -20,7 +20,7 @@ const CHECKSUM_AT: usize = 12;
 const SUMMED_FROM: usize = 16;
 
 /// A classified catalogue whose concepts and roles have names.
-#[derive(Debug)]
+#[derive(Clone, Debug)]
 pub struct State {
     /// The names.
     pub names: Names,

@@ -23,6 +23,7 @@ const OTHER: &[Verb] = &[Verb {
     name: "bend",
     usage: "THING STATE [-x | --y-z 'A \\ B'] -o FILE",
     operands: &["THING", "STATE"],
+    optional: 0,
     flags: &[
         Flag {
             name: "-x",
@@ -215,7 +216,15 @@ fn completion_in_bash() {
         (&["lookup", "lake.state", "ta"], &[]),
         (
             &["change", "lake.state", "--out", "tap < water", "--"],
-            &["--out", "--in", "--wait", "--json", "--help"],
+            &[
+                "--out",
+                "--in",
+                "--touched",
+                "--dry-run",
+                "--wait",
+                "--json",
+                "--help",
+            ],
         ),
         (&["change", "lake.state", "--out", "--in", "--i"], &["--in"]),
     ] {

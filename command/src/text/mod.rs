@@ -16,7 +16,7 @@
 //!
 //! - [`compile()`]: text to catalogue; [`print()`]: catalogue to text; [`owl()`]: catalogue to OWL
 //! - [`expression()`], [`axioms`]: what stands on a command line, read by the same parser
-//! - [`candidates`], [`extended`]: the records of an expression, found or added
+//! - [`candidates`], [`extended`]: the records of an expression, found or added; [`entered`]: kinds
 
 mod compile;
 mod draft;
@@ -40,4 +40,5 @@ pub use nearest::nearest;
 pub use owl::owl;
 pub(crate) use print::parts;
 pub use print::print;
-pub use resolve::{axioms, candidates, expression, extended, in_force, written, Extended};
+pub use resolve::Extended;
+pub use resolve::{axioms, candidates, entered, expression, extended, in_force, kinds, written};

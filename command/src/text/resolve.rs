@@ -1,7 +1,8 @@
 //! Expressions and axioms of a command line, and their records.
 
-use girvotal::{Axiom, Catalogue, Concept};
+use girvotal::{Axiom, Catalogue, Concept, Record};
 
+use super::compile::Compiled;
 use super::draft::Draft;
 use super::expression::{Expression, Node};
 use super::faults::{Failure, Fault, Faults, Problem};
@@ -73,6 +74,32 @@ pub fn axioms(
 ) -> Result<Vec<(Expression, Expression)>, Vec<Fault>> {
     let scope = Scope::of(names, catalogue);
     parsed(source, &scope, |parser| parser.axioms_alone())
+}
+
+/// The kinds that an argument declares by `kind`; none of another argument.
+pub fn kinds(
+    source: &str,
+    names: &Names,
+    catalogue: Catalogue<'_>,
+) -> Result<Vec<String>, Vec<Fault>> {
+    let scope = Scope::of(names, catalogue);
+    parsed(source, &scope, |parser| parser.kinds_alone())
+}
+
+/// A catalogue with some kinds more, at its end, by names that are free.
+pub fn entered(
+    catalogue: Catalogue<'_>,
+    names: &Names,
+    kinds: &[String],
+) -> Result<Compiled, Failure> {
+    let mut draft = Draft::of(catalogue);
+    let mut names = names.clone();
+    for kind in kinds {
+        draft.push(Record::Atomic);
+        names.concepts.push(Some(kind.clone()));
+    }
+    let catalogue = draft.build()?;
+    Ok(Compiled { catalogue, names })
 }
 
 /// The text of an expression over this catalogue.

@@ -55,16 +55,40 @@ impl Parser<'_> {
 
     /// The axioms of a line that says nothing else.
     pub(super) fn axioms_alone(&mut self) -> Parsed<Vec<Sides>> {
-        if matches!(self.lexeme(), Lexeme::Fixed("kind" | "role" | "let")) {
-            let wrong = self.expected("an axiom");
-            self.at = self.tokens.len();
-            return wrong;
+        if let Lexeme::Fixed(word @ ("kind" | "role" | "let")) = *self.lexeme() {
+            return self.error(format!(
+                "`{word}` is no axiom: print the text by `girvotal text STATE`, change it, and \
+                 `girvotal update STATE TEXT`"
+            ));
         }
         if self.is_role_axiom()? {
             return self
                 .error("role axioms cannot be changed; classify the changed text".to_owned());
         }
         self.axioms()
+    }
+
+    /// The kinds that a line declares, each by a name that is free; none of a line that begins with
+    /// another word than `kind`.
+    pub(super) fn kinds_alone(&mut self) -> Parsed<Vec<String>> {
+        let mut names = vec![];
+        if !self.take("kind") {
+            return Ok(names);
+        }
+        loop {
+            let at = self.at;
+            let Declaration { name, .. } = self.declaration()?;
+            if self.scope.get(&name).is_some() || names.contains(&name) {
+                self.at = at;
+                let name = quoted(&name);
+                return self.error(format!("`{name}` is declared already; take another name"));
+            }
+            names.push(name);
+            if !self.take(",") {
+                self.end("`,` or the end of the line")?;
+                return Ok(names);
+            }
+        }
     }
 
     /// Steps over the word that begins a declaration, also if it is misspelt: then an undeclared

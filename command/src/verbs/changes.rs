@@ -4,7 +4,9 @@ use std::ffi::OsStr;
 
 use girvotal::{Axiom, Question, Refusal};
 
-use super::{failed, in_argument, listed, state};
+use super::pairs::Pairs;
+use super::update::one_change;
+use super::{count, failed, in_argument, listed, read_state};
 use crate::arguments::Given;
 use crate::failure::Failure;
 use crate::files::{self, Target};
@@ -23,7 +25,7 @@ pub fn change(given: &Given, streams: &mut Streams<'_>) -> Result<Report, Failur
     changed(given, out.collect(), new.collect(), streams)
 }
 
-/// `add STATE 'A < B'`
+/// `add STATE 'A < B'`, `add STATE 'kind NAME'`
 pub fn add(given: &Given, streams: &mut Streams<'_>) -> Result<Report, Failure> {
     changed(given, vec![], vec![given.operand(1)], streams)
 }
@@ -33,17 +35,21 @@ pub fn withdraw(given: &Given, streams: &mut Streams<'_>) -> Result<Report, Fail
     changed(given, vec![given.operand(1)], vec![], streams)
 }
 
-/// A state that is to be changed: no other run changes it before the target is saved or dropped.
-pub fn locked(given: &Given, streams: &mut Streams<'_>) -> Result<(Target, State), Failure> {
+/// The state that is to be changed: no other run changes it before the target is saved or dropped.
+/// In a dry run there is no target.
+pub fn begun(given: &Given, streams: &mut Streams<'_>) -> Result<(Option<Target>, State), Failure> {
     let path = given.operand(0);
+    if given.has("--dry-run") {
+        return Ok((None, read_state(path, streams)?));
+    }
     if files::is_stream(path) {
         return Err(Failure::Usage(
             "a state that is changed is a file, not `-`; name one".into(),
         ));
     }
     let target = Target::of_file(path, given.wait()?)?;
-    let bytes = files::read(path, streams)?;
-    Ok((target, state(path, &bytes)?))
+    let state = read_state(path, streams)?;
+    Ok((Some(target), state))
 }
 
 fn changed(
@@ -52,15 +58,56 @@ fn changed(
     new: Vec<&OsStr>,
     streams: &mut Streams<'_>,
 ) -> Result<Report, Failure> {
-    let (target, mut state) = locked(given, streams)?;
+    let (target, old) = begun(given, streams)?;
+    let mut state = old.clone();
+    let (entered, new) = entered(&new, &mut state)?;
     let (out, new) = (sides(&out, &state)?, sides(&new, &state)?);
     let withdrawn = in_force(&out, &state)?;
     let added = recorded(&new, &mut state)?;
     let difference = state
         .change(&withdrawn, &added)
         .map_err(|refusal| blamed(refusal, &withdrawn, &added, &out, &new, &state))?;
-    target.save(&state.bytes(), streams)?;
-    Ok(told(&difference, &state))
+    let (mut how, more) = one_change(withdrawn.len(), added.len());
+    if entered > 0 {
+        how += &format!(", {} entered", count(entered, "kind"));
+    }
+    let pairs = Pairs::between(&old, &state)?;
+    let mut text = format!("{}; {how}\n", pairs.text());
+    let mut fields = pairs.fields();
+    fields.extend(more);
+    fields.push(("entered", entered.into()));
+    if given.has("--touched") {
+        touched(&difference, &state, &mut text, &mut fields);
+    }
+    if let Some(target) = target {
+        target.save(&state.bytes(), streams)?;
+    }
+    Ok(Report::done(text, Json::Object(fields)))
+}
+
+/// Enters the kinds that some arguments declare in a state, which is classified with them. How many
+/// there are, and the other arguments.
+fn entered<'a>(
+    arguments: &[&'a OsStr],
+    state: &mut State,
+) -> Result<(usize, Vec<&'a OsStr>), Failure> {
+    let (mut count, mut others) = (0, Vec::new());
+    for &argument in arguments {
+        let source = argument.to_str().ok_or_else(|| not_utf8(argument))?;
+        let catalogue = state.site.catalogue();
+        let kinds = text::kinds(source, &state.names, catalogue);
+        let kinds = kinds.map_err(|faults| in_argument(source, faults))?;
+        match kinds.as_slice() {
+            [] => others.push(argument),
+            kinds => {
+                let more = text::entered(catalogue, &state.names, kinds);
+                let more = more.map_err(|failure| failed(String::new(), failure))?;
+                *state = State::classify(more)?.0;
+                count += kinds.len();
+            }
+        }
+    }
+    Ok((count, others))
 }
 
 /// The axioms of some arguments.
@@ -132,8 +179,13 @@ fn written((left, right): &Side, state: &State) -> String {
     format!("`{} < {}`", side(left), side(right))
 }
 
-/// The counts of a change and the kinds touched.
-fn told(difference: &Difference, state: &State) -> Report {
+/// Tells the counts of a change, of pairs and links, and the kinds touched.
+fn touched(
+    difference: &Difference,
+    state: &State,
+    text: &mut String,
+    fields: &mut Vec<(&'static str, Json)>,
+) {
     let Difference {
         removed,
         returned,
@@ -146,13 +198,12 @@ fn told(difference: &Difference, state: &State) -> Report {
         true => "no kind".into(),
         false => quoted.join(", "),
     };
-    let text =
-        format!("removed {removed}, returned {returned}, gained {gained}\ntouched: {kinds}\n");
-    let json = Json::Object(vec![
+    *text += &format!("removed {removed}, returned {returned}, gained {gained}\n");
+    *text += &format!("touched: {kinds}\n");
+    let counts = Json::Object(vec![
         ("removed", (*removed).into()),
         ("returned", (*returned).into()),
         ("gained", (*gained).into()),
-        ("touched", listed(&names)),
     ]);
-    Report::done(text, json)
+    fields.extend([("counts", counts), ("touched", listed(&names))]);
 }

@@ -3,7 +3,7 @@
 use girvotal::Question;
 
 use crate::arguments::Given;
-use crate::failure::Failure;
+use crate::failure::{self, Failure};
 use crate::json::Json;
 use crate::{Report, Streams};
 
@@ -25,12 +25,16 @@ pub fn explain(given: &Given, _: &mut Streams<'_>) -> Result<Report, Failure> {
         return Err(unknown());
     }
     let (name, sentence, advice) = (question.name(), question.sentence(), question.advice());
-    let mut text = format!("{number} ({name}): {sentence}\nWhat to do: {advice}\n");
+    let command = failure::advice(question);
+    let mut text = format!(
+        "{number} ({name}): {sentence}\nWhat to do: {advice}\nWith the command: {command}\n"
+    );
     let mut fields = vec![
         ("number", number.into()),
         ("name", name.into()),
         ("sentence", sentence.into()),
         ("advice", advice.into()),
+        ("command", command.into()),
     ];
     if result != number {
         text += &format!("At fault: record {record}\n");

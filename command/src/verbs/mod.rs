@@ -2,8 +2,11 @@
 
 mod answers;
 mod changes;
+mod diff;
 mod explain;
 mod format;
+mod pairs;
+mod query;
 mod table;
 mod texts;
 mod tree;
@@ -72,7 +75,11 @@ fn read_text(path: &OsStr, streams: &mut Streams<'_>) -> Result<Compiled, Failur
 
 /// A file that is a text, a catalogue or a state.
 fn read_any(path: &OsStr, streams: &mut Streams<'_>) -> Result<Compiled, Failure> {
-    let bytes = files::read(path, streams)?;
+    any(path, files::read(path, streams)?)
+}
+
+/// The catalogue and names of a text's, a catalogue's or a state's bytes.
+fn any(path: &OsStr, bytes: Vec<u8>) -> Result<Compiled, Failure> {
     match Format::of(&bytes) {
         Format::Catalogue => {
             let catalogue = Catalogue::new(&bytes);
@@ -90,6 +97,15 @@ fn read_any(path: &OsStr, streams: &mut Streams<'_>) -> Result<Compiled, Failure
     }
 }
 
+/// The same, classified; a state as it is.
+fn read_classified(path: &OsStr, streams: &mut Streams<'_>) -> Result<State, Failure> {
+    let bytes = files::read(path, streams)?;
+    match Format::of(&bytes) {
+        Format::State => state(path, &bytes),
+        _ => Ok(State::classify(any(path, bytes)?)?.0),
+    }
+}
+
 /// Errors in an argument that is an expression or an axiom.
 fn in_argument(source: &str, faults: Vec<Fault>) -> Failure {
     failed(format!("`{source}`"), text::Failure::Faults(faults))
@@ -100,7 +116,8 @@ fn nowhere(written: &str) -> Failure {
     Failure::Refused {
         question: Question::Occurs,
         sentence: format!(
-            "`{written}` is in no axiom in force; for a wish, define a kind: `NAME = ..`"
+            "`{written}` is in no axiom in force; `girvotal query STATE '{written}'` says which \
+             kinds meet it"
         ),
     }
 }

@@ -1,6 +1,6 @@
 //! The table of verbs, from which the arguments are read and the help is printed.
 
-use super::{answers, changes, explain, texts, tree, update};
+use super::{answers, changes, diff, explain, query, texts, tree, update};
 use crate::arguments::{Flag, Given};
 use crate::failure::Failure;
 use crate::{Report, Streams};
@@ -13,6 +13,8 @@ pub struct Verb {
     pub usage: &'static str,
     /// The names of its operands.
     pub operands: &'static [&'static str],
+    /// How many of the last of them may be left out.
+    pub optional: usize,
     /// Its options, beside those that every verb takes.
     pub flags: &'static [Flag],
     /// What it does, in a line.
@@ -37,6 +39,13 @@ const FORCE: Flag = Flag {
     help: "replace a file that holds something else, too",
 };
 
+/// The option for what a change touched.
+const TOUCHED: Flag = Flag {
+    name: "--touched",
+    value: "",
+    help: "print the counts of pairs and links too, and the kinds touched: all others answer as before",
+};
+
 /// The option to change nothing.
 const DRY_RUN: Flag = Flag {
     name: "--dry-run",
@@ -57,6 +66,7 @@ pub const VERBS: &[Verb] = &[
         name: "check",
         usage: "TEXT",
         operands: &["TEXT"],
+        optional: 0,
         flags: &[],
         summary: "check a text",
         help: "Checks a text and prints how much it declares, or all its errors.",
@@ -66,6 +76,7 @@ pub const VERBS: &[Verb] = &[
         name: "compile",
         usage: "TEXT -o CATALOGUE",
         operands: &["TEXT"],
+        optional: 0,
         flags: &[OUTPUT, FORCE, WAIT],
         summary: "make a catalogue of a text",
         help: "Makes the catalogue that a text says.",
@@ -75,6 +86,7 @@ pub const VERBS: &[Verb] = &[
         name: "text",
         usage: "FILE [--exact | --owl]",
         operands: &["FILE"],
+        optional: 0,
         flags: &[
             Flag {
                 name: "--exact",
@@ -96,6 +108,7 @@ pub const VERBS: &[Verb] = &[
         name: "classify",
         usage: "FILE -o STATE",
         operands: &["FILE"],
+        optional: 0,
         flags: &[OUTPUT, FORCE, WAIT],
         summary: "classify a text or a catalogue into a state",
         help: "Works out which concepts lie under which, and makes the state of them: one\n\
@@ -106,6 +119,7 @@ pub const VERBS: &[Verb] = &[
         name: "update",
         usage: "STATE TEXT [--dry-run]",
         operands: &["STATE", "TEXT"],
+        optional: 0,
         flags: &[DRY_RUN, WAIT],
         summary: "bring a state in step with a text",
         help: "Makes the state what `classify` makes of the text, and prints which kinds no\n\
@@ -116,20 +130,28 @@ pub const VERBS: &[Verb] = &[
     },
     Verb {
         name: "lookup",
-        usage: "STATE A B",
+        usage: "STATE A B | STATE -",
         operands: &["STATE", "A", "B"],
+        optional: 1,
         flags: &[],
         summary: "say whether A lies under B: yes (0) or no (1)",
         help: "Prints `yes` if every A is a B by the axioms in force, whatever else holds,\n\
                and `no` if not. A and B are kinds or expressions; a composite must be part of\n\
-               an axiom in force.",
+               an axiom in force. With `-` it answers pairs from standard input, a line each:\n\
+               `A < B`, or A and B with a tab between.",
         run: answers::lookup,
     },
     Verb {
         name: "list",
-        usage: "STATE B",
+        usage: "STATE B [--direct]",
         operands: &["STATE", "B"],
-        flags: &[],
+        optional: 0,
+        flags: &[Flag {
+            name: "--direct",
+            value: "",
+            help:
+                "only those directly below: under B, not equal to it, and under no other such kind",
+        }],
         summary: "list the kinds under B",
         help: "Prints every kind that lies under B, a kind or an expression, one a line. A\n\
                kind lies under itself.",
@@ -137,18 +159,50 @@ pub const VERBS: &[Verb] = &[
     },
     Verb {
         name: "above",
-        usage: "STATE A",
+        usage: "STATE A [--direct]",
         operands: &["STATE", "A"],
-        flags: &[],
+        optional: 0,
+        flags: &[Flag {
+            name: "--direct",
+            value: "",
+            help:
+                "only those directly above: above A, not equal to it, and above no other such kind",
+        }],
         summary: "list the kinds above A",
         help: "Prints every kind that A, a kind or an expression, lies under, one a line. A\n\
                kind lies under itself.",
         run: answers::above,
     },
     Verb {
+        name: "query",
+        usage: "STATE EXPR",
+        operands: &["STATE", "EXPR"],
+        optional: 0,
+        flags: &[],
+        summary: "list the kinds that meet a wish",
+        help: "Prints every kind that lies under an expression, be that in the catalogue or not,\n\
+               one a line: `= NAME` for a kind that is equal to it, and at the end `< NAME` for\n\
+               each kind directly above it. The state is classified in memory with the wish as\n\
+               a kind of its own; nothing is written.",
+        run: query::query,
+    },
+    Verb {
+        name: "diff",
+        usage: "A B",
+        operands: &["FILE", "FILE"],
+        optional: 0,
+        flags: &[],
+        summary: "say by which pairs of kinds two files differ: none (0) or some (1)",
+        help: "Prints which kinds lie under which by A and not by B (-), and by B and not by A\n\
+               (+). A and B are states, texts or catalogues; kinds are the same that have the\n\
+               same name.",
+        run: diff::diff,
+    },
+    Verb {
         name: "tree",
         usage: "STATE [--dot | --html] [-o FILE]",
         operands: &["STATE"],
+        optional: 0,
         flags: &[
             Flag {
                 name: "--dot",
@@ -176,6 +230,7 @@ pub const VERBS: &[Verb] = &[
         name: "change",
         usage: "STATE [--out 'A < B'].. [--in 'A < B']..",
         operands: &["STATE"],
+        optional: 0,
         flags: &[
             Flag {
                 name: "--out",
@@ -185,31 +240,37 @@ pub const VERBS: &[Verb] = &[
             Flag {
                 name: "--in",
                 value: "AXIOM",
-                help: "add an axiom; may be given again",
+                help: "add an axiom, or kinds: `kind NAME`; may be given again",
             },
+            TOUCHED,
+            DRY_RUN,
             WAIT,
         ],
         summary: "withdraw and add axioms, at once",
-        help: "Withdraws axioms in force and adds others, in one change, and prints how many\n\
-               pairs and links were removed, returned and gained, and the kinds that this\n\
-               touched. With a composite that the state does not have yet, a new catalogue is\n\
-               classified first. `A = B` is two axioms.",
+        help: "Withdraws axioms in force and adds others, in one change, and prints which kinds\n\
+               no longer lie under which (-) and which newly do (+). With a composite that the\n\
+               state does not have yet, a new catalogue is classified first. `A = B` is two\n\
+               axioms.",
         run: changes::change,
     },
     Verb {
         name: "add",
-        usage: "STATE 'A < B'",
+        usage: "STATE 'A < B' | 'kind NAME'",
         operands: &["STATE", "AXIOM"],
-        flags: &[WAIT],
-        summary: "add one axiom",
-        help: "The same as `change STATE --in 'A < B'`.",
+        optional: 0,
+        flags: &[TOUCHED, DRY_RUN, WAIT],
+        summary: "add one axiom, or enter a kind",
+        help:
+            "The same as `change STATE --in 'A < B'`; with `kind NAME`, a kind of which nothing\n\
+               is said yet.",
         run: changes::add,
     },
     Verb {
         name: "withdraw",
         usage: "STATE 'A < B'",
         operands: &["STATE", "AXIOM"],
-        flags: &[WAIT],
+        optional: 0,
+        flags: &[TOUCHED, DRY_RUN, WAIT],
         summary: "withdraw one axiom",
         help: "The same as `change STATE --out 'A < B'`.",
         run: changes::withdraw,
@@ -218,6 +279,7 @@ pub const VERBS: &[Verb] = &[
         name: "write",
         usage: "STATE -o CATALOGUE",
         operands: &["STATE"],
+        optional: 0,
         flags: &[OUTPUT, FORCE, WAIT],
         summary: "make the catalogue with the axioms in force",
         help: "Makes the catalogue that a state has now: its records, with the axioms in\n\
@@ -228,6 +290,7 @@ pub const VERBS: &[Verb] = &[
         name: "explain",
         usage: "N",
         operands: &["N"],
+        optional: 0,
         flags: &[],
         summary: "explain a refusal by its number",
         help: "Says what a refusal's number means and what to do. N may also be the whole\n\

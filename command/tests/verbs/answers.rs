@@ -1,5 +1,8 @@
 //! `lookup`, `list`, `above`.
 
+use std::io::{BufRead, BufReader, Write};
+use std::process::Stdio;
+
 use crate::check;
 use crate::support::Folder;
 
@@ -26,4 +29,116 @@ fn odd_names() {
     );
     let (status, _, errors) = folder.run("list s any");
     assert_eq!(status, 3, "{errors}");
+}
+
+/// Pairs from standard input, a line each.
+#[test]
+fn pairs() {
+    let folder = Folder::with_lake();
+    let pairs = "corner-pitch < powered-pitch\n\n\"Seeplatz Süd\" < tap\r\nSeeplatz Süd\tpitch\n\
+                 tap < has some tapp\ncorner-pitch\toffers some electricity\npitch < has some \
+                 water\ntap = tap and tap\npitch < pitch";
+    folder.write("pairs", pairs);
+    let (status, output, errors) = folder.shell("girvotal lookup lake.state - < pairs");
+    assert_eq!(status, 3);
+    assert_eq!(output, "yes\nno\nyes\nwrong\nyes\nrefused\nwrong\nyes\n");
+    let said: Vec<&str> = errors.lines().collect();
+    assert_eq!(said.len(), 3, "{errors}");
+    assert!(
+        said[0].contains("`tapp` is not declared; did you mean `tap`?"),
+        "{errors}"
+    );
+    assert!(
+        said[1].starts_with("girvotal: refused (19): `has some water`"),
+        "{errors}"
+    );
+    assert_eq!(said[2], "-:8:1: error: `=` is two pairs; write `A < B`");
+    folder.write("pairs", "tap < water\npitch\thas some water\ntap\ttap");
+    let (status, output, errors) = folder.shell("girvotal lookup lake.state - --json < pairs");
+    assert_eq!((status, errors.as_str()), (2, ""));
+    let lines: Vec<&str> = output.lines().collect();
+    assert_eq!(
+        (lines[0], lines[2]),
+        ("{\"answer\": false}", "{\"answer\": true}")
+    );
+    assert!(
+        lines[1].starts_with("{\"refused\": {\"number\": 19"),
+        "{output}"
+    );
+    let (status, output, _) = folder.shell("girvotal lookup lake.state - < /dev/null");
+    assert_eq!((status, output.as_str()), (0, ""));
+    let usage = "girvotal: lookup takes STATE A B; usage: girvotal lookup STATE A B | STATE -\n";
+    check(
+        &folder,
+        &[
+            ("lookup - -", 3, "", usage),
+            ("lookup lake.state tap", 3, "", usage),
+        ],
+    );
+}
+
+/// An answer is there before the next pair is asked.
+#[test]
+fn pairs_as_they_come() {
+    let folder = Folder::with_lake();
+    let mut command = folder.command(&["lookup", "lake.state", "-"]);
+    command.stdin(Stdio::piped()).stdout(Stdio::piped());
+    let mut child = command.spawn().expect("a run");
+    let mut asked = child.stdin.take().expect("standard input");
+    let mut answers = BufReader::new(child.stdout.take().expect("standard output"));
+    for (pair, answer) in [("tap < tap\n", "yes\n"), ("tap < water\n", "no\n")] {
+        asked.write_all(pair.as_bytes()).expect("asked");
+        let mut line = String::new();
+        answers.read_line(&mut line).expect("answered");
+        assert_eq!(line, answer);
+    }
+    drop(asked);
+    assert!(child.wait().expect("an end").success());
+}
+
+/// What is directly below and above.
+#[test]
+fn direct() {
+    let folder = Folder::with_lake();
+    folder.done("classify campsite.gv -o campsite.state");
+    let hookup = "comfort-pitch\nfull-hookup-pitch\nlakeside-pitch\n";
+    check(
+        &folder,
+        &[
+            ("list lake.state pitch --direct", 0, "powered-pitch\n", ""),
+            (
+                "list lake.state powered-pitch --direct",
+                0,
+                "corner-pitch\ncomfort-pitch\n",
+                "",
+            ),
+            ("list lake.state tap --direct", 0, "", ""),
+            (
+                "list lake.state 'offers some electricity' --direct",
+                0,
+                "powered-pitch\n",
+                "",
+            ),
+            (
+                "above lake.state 'Seeplatz Süd' --direct",
+                0,
+                "corner-pitch\ncomfort-pitch\n",
+                "",
+            ),
+            ("above lake.state pitch --direct", 0, "", ""),
+            ("above campsite.state premium-pitch --direct", 0, hookup, ""),
+            (
+                "above campsite.state comfort-pitch --direct",
+                0,
+                "powered-pitch\nwatered-pitch\n",
+                "",
+            ),
+            (
+                "list campsite.state comfort-pitch --direct --json",
+                0,
+                "{\"kinds\": [\"premium-pitch\"]}\n",
+                "",
+            ),
+        ],
+    );
 }

@@ -79,6 +79,8 @@ fn full_device() {
         "lookup lake.state pitch tap",
         "list lake.state pitch",
         "above lake.state pitch",
+        "query lake.state 'offers some water'",
+        "diff lake.gv w1.gv",
         "tree lake.state",
         "tree lake.state --html",
         "tree lake.state --dot",

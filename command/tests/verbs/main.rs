@@ -6,6 +6,7 @@ mod support;
 mod answers;
 mod change;
 mod files;
+mod query;
 mod refusals;
 mod state;
 mod texts;
@@ -53,7 +54,7 @@ fn w1() {
             (
                 "withdraw w1.state 'pillar < supplies some electricity'",
                 0,
-                "removed 10, returned 0, gained 0\ntouched: corner-pitch, pillar\n",
+                "- corner-pitch < powered-pitch\n1 lost, 0 gained; one change: 1 axiom out, 0 in\n",
                 "",
             ),
             ("lookup w1.state corner-pitch powered-pitch", 1, "no\n", ""),
@@ -61,13 +62,13 @@ fn w1() {
                 "lookup w1.state pillar 'supplies some electricity'",
                 2,
                 "",
-                "girvotal: refused (19): `supplies some electricity` is in no axiom in force; for a \
-                 wish, define a kind: `NAME = ..`\n",
+                "girvotal: refused (19): `supplies some electricity` is in no axiom in force; \
+                 `girvotal query STATE 'supplies some electricity'` says which kinds meet it\n",
             ),
             (
                 "add w1.state 'pillar < supplies some electricity'",
                 0,
-                "removed 0, returned 0, gained 10\ntouched: corner-pitch, pillar\n",
+                "+ corner-pitch < powered-pitch\n0 lost, 1 gained; one change: 0 axioms out, 1 in\n",
                 "",
             ),
             ("write w1.state -o back.bin", 0, "4 kinds, 3 roles, 7 concepts, 3 axioms\n", ""),

@@ -22,45 +22,49 @@ fn refusals() {
     let cases = [
         (
             "lookup lake.state pitch 'has some water'",
-            "refused (19): `has some water` is in no axiom in force; for a wish, define a kind: \
-             `NAME = ..`"
+            "refused (19): `has some water` is in no axiom in force; `girvotal query STATE \
+             'has some water'` says which kinds meet it"
                 .to_string(),
         ),
         (
             "list lake.state any",
-            "refused (19): `any` is in no axiom in force; for a wish, define a kind: `NAME = ..`"
+            "refused (19): `any` is in no axiom in force; `girvotal query STATE 'any'` says which \
+             kinds meet it"
                 .to_string(),
         ),
-        ("check many.gv", format!("refused (3): {over}: 513 concepts")),
-        ("text cut.bin", "refused (2): the catalogue's total is not the length lent: cut.bin".to_string()),
+        ("check many.gv", format!(
+                "refused (3): {over}: 513 concepts; drop what nothing uses, or make two catalogues \
+                 of it"
+            )),
+        ("text cut.bin", "refused (2): the catalogue's total is not the length lent: cut.bin; make the file again, by `girvotal compile` or by what wrote it".to_string()),
         (
             "classify kind.bin -o kind.state",
-            "refused (5): a concept's kind is above 3 (record 5): kind.bin".to_string(),
+            "refused (5): a concept's kind is above 3 (record 5): kind.bin; make the file again, by `girvotal compile` or by what wrote it".to_string(),
         ),
         (
             "add lake.state 'tap < supplies some water'",
-            "refused (16): an axiom to add is in force already: `tap < supplies some water`"
+            "refused (16): an axiom to add is in force already: `tap < supplies some water`; leave it out"
                 .to_string(),
         ),
         (
             "withdraw lake.state 'pillar < supplies some water'",
-            "refused (18): an axiom to withdraw is not in force: `pillar < supplies some water`"
+            "refused (18): an axiom to withdraw is not in force: `pillar < supplies some water`; `girvotal text STATE` prints those in force"
                 .to_string(),
         ),
         (
             "withdraw lake.state 'pillar < has some (tap and water)'",
-            "refused (18): an axiom to withdraw is not in force: `pillar < has some (tap and water)`"
+            "refused (18): an axiom to withdraw is not in force: `pillar < has some (tap and water)`; `girvotal text STATE` prints those in force"
                 .to_string(),
         ),
         (
             twice,
             "refused (23): an axiom stands twice in the two lists together: `tap < supplies some \
-             water`"
+             water`; name it once"
                 .to_string(),
         ),
         (
             &format!("change lake.state{outs}"),
-            "refused (22): a list of axioms has more than 64, or not whole ones".to_string(),
+            "refused (22): a list of axioms has more than 64, or not whole ones; make several changes, or `girvotal update STATE TEXT`".to_string(),
         ),
     ];
     for (line, sentence) in cases {
@@ -92,7 +96,8 @@ fn full() {
     }
     folder.write("full.gv", &text);
     folder.done("classify full.gv -o full.state");
-    let sentence = "girvotal: refused (17): more than 4,096 axioms would be in force\n";
+    let sentence =
+        "girvotal: refused (17): more than 4,096 axioms would be in force; withdraw some first\n";
     check(&folder, &[("add full.state 'k64 < k0'", 2, "", sentence)]);
     folder.done("change full.state --out 'k0 < k0' --in 'k64 < k0'");
 }

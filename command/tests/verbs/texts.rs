@@ -63,12 +63,6 @@ fn wrong_texts() {
                  text\n",
             ),
             (
-                "add lake.state 'kind x'",
-                3,
-                "",
-                "`kind x`:1:1: error: expected an axiom, found `kind`\n",
-            ),
-            (
                 "add lake.state 'tapp < water'",
                 3,
                 "",

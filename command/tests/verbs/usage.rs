@@ -1,6 +1,7 @@
 //! Wrong usage, help, and refusals explained.
 
 use girvotal::Question;
+use girvotal_command::failure::advice;
 use girvotal_command::verbs::VERBS;
 
 use crate::check;
@@ -15,7 +16,7 @@ fn usage() {
         ("frobnicate", "`frobnicate` is no verb; `girvotal --help` lists them"),
         (
             "lookup lake.state pitch",
-            "lookup takes STATE A B; usage: girvotal lookup STATE A B",
+            "lookup takes STATE A B; usage: girvotal lookup STATE A B | STATE -",
         ),
         (
             "compile lake.gv",
@@ -64,11 +65,11 @@ fn usage() {
         ),
         (
             "lookup lake.state pitch pitch pitch",
-            "lookup takes STATE A B; usage: girvotal lookup STATE A B",
+            "lookup takes STATE A B; usage: girvotal lookup STATE A B | STATE -",
         ),
         (
             "lookup lake.state -- pitch --json pitch",
-            "lookup takes STATE A B; usage: girvotal lookup STATE A B",
+            "lookup takes STATE A B; usage: girvotal lookup STATE A B | STATE -",
         ),
         ("explain 21", "no refusal has the number `21`; they are 1 to 20, 22, 23 and 65535"),
         ("explain nineteen", "no refusal has the number `nineteen`; they are 1 to 20, 22, 23 and 65535"),
@@ -92,6 +93,18 @@ fn usage() {
 fn help() {
     let folder = Folder::new();
     let overview = folder.done("--help");
+    assert_eq!(folder.done("help"), overview);
+    assert_eq!(folder.done("help help"), overview);
+    let unknown = "girvotal: `lokup` is no verb; `girvotal --help` lists them; did you mean \
+                   `lookup`?\n";
+    let two = "girvotal: help takes one verb; usage: girvotal help [VERB]\n";
+    check(
+        &folder,
+        &[
+            ("help lokup", 3, "", unknown),
+            ("help list above", 3, "", two),
+        ],
+    );
     for verb in VERBS {
         assert!(
             overview.contains(&format!("  {} ", verb.name)),
@@ -101,6 +114,7 @@ fn help() {
         let help = folder.done(&format!("{} --help", verb.name));
         let usage = format!("Usage: girvotal {} {}\n", verb.name, verb.usage);
         assert!(help.starts_with(&usage), "{help}");
+        assert_eq!(folder.done(&format!("help {}", verb.name)), help);
         for flag in verb.flags {
             assert!(help.contains(flag.help), "{help}");
         }
@@ -120,6 +134,7 @@ fn explained() {
         let lines = [
             format!("{} ({name}): {}", question.number(), question.sentence()),
             format!("What to do: {}", question.advice()),
+            format!("With the command: {}", advice(*question)),
         ];
         assert_eq!(text.lines().collect::<Vec<_>>(), lines);
     }
