@@ -11,9 +11,9 @@ _girvotal() {
             verb=$word
             # The operands in order, each a file or none that is known, and the options.
             case $verb in
-                check) operands=(file) options=(--json --help) ;;
+                check) operands=(file) options=(--lint --json --help) ;;
                 compile) operands=(file) options=(-o --force --wait --json --help) ;;
-                text) operands=(file) options=(--exact --owl --json --help) ;;
+                text) operands=(file) options=(--exact --owl --split --json --help) ;;
                 classify) operands=(file) options=(-o --force --wait --json --help) ;;
                 update) operands=(file file) options=(--dry-run --wait --json --help) ;;
                 lookup) operands=(file none none) options=(--json --help) ;;

@@ -60,7 +60,12 @@ impl State {
 
     /// The atomic concepts, rising.
     pub fn kinds(&self) -> Vec<Concept> {
-        let numbered = (0..).map(Concept).zip(self.site.catalogue().records());
+        State::kinds_of(self.site.catalogue())
+    }
+
+    /// Those of a catalogue.
+    pub fn kinds_of(catalogue: Catalogue<'_>) -> Vec<Concept> {
+        let numbered = (0..).map(Concept).zip(catalogue.records());
         let atomic = numbered.filter(|(_, record)| *record == Record::Atomic);
         atomic.map(|(concept, _)| concept).collect()
     }

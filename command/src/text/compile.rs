@@ -1,6 +1,8 @@
 //! Text to catalogue.
 
-use girvotal::{Axiom, Record, Role};
+use std::collections::HashMap;
+
+use girvotal::{Axiom, Catalogue, Composition, Inclusion, Record, Role};
 
 use super::draft::Draft;
 use super::expression::{Expression, Node};
@@ -8,6 +10,7 @@ use super::faults::{Failure, Fault, Faults, Problem};
 use super::names::{quoted, Names};
 use super::parser::Parser;
 use super::scope::{Declared, Meaning, Scope};
+use super::split::{split_draft, Split};
 use super::statement::{Declaration, Statement};
 
 /// A text's catalogue and names.
@@ -24,12 +27,37 @@ pub struct Compiled {
 /// A line ends with a line feed; a carriage return before that, and a byte order mark at the start,
 /// are passed over. Of a text that is not UTF-8 the first such byte alone is told.
 pub fn compile(text: &[u8]) -> Result<Compiled, Failure> {
-    let text = decoded(text).map_err(|fault| Failure::Faults(vec![fault]))?;
-    let mut compiler = Compiler::default();
-    for (line, number) in text.lines().zip(1..) {
-        compiler.line(number, line);
+    let (draft, names) = Compiler::read(text)?.finish()?;
+    let catalogue = draft.build();
+    let catalogue = catalogue.map_err(|failure| failure.with(&fewer(&draft, &names)))?;
+    Ok(Compiled { catalogue, names })
+}
+
+/// The same with right sides split: `A < B and C` as `A < B` and `A < C`. So it may be within the
+/// limits where the text is not.
+pub fn compile_split(text: &[u8]) -> Result<Compiled, Failure> {
+    let (draft, names) = Compiler::read(text)?.finish()?;
+    split_draft(&draft, &names)
+}
+
+/// A catalogue with right sides split.
+pub fn split(Compiled { catalogue, names }: &Compiled) -> Result<Compiled, Failure> {
+    let catalogue = Catalogue::new(catalogue)?;
+    split_draft(&Draft::of(catalogue), names)
+}
+
+/// The lines of a text that repeat a role axiom, each with the line that says it first.
+pub fn repeated(text: &[u8]) -> Result<Vec<(usize, usize)>, Failure> {
+    Ok(Compiler::read(text)?.repeated)
+}
+
+/// How many records fewer a draft has with right sides split; empty if none.
+fn fewer(draft: &Draft, names: &Names) -> String {
+    let left = Split::of(draft, names).map_or(draft.concepts(), |split| split.concepts());
+    match draft.concepts() - left {
+        0 => String::new(),
+        fewer => format!(", {fewer} fewer with right sides split: `girvotal text TEXT --split`"),
     }
-    compiler.finish()
 }
 
 /// The text's characters, without a byte order mark.
@@ -56,9 +84,42 @@ struct Compiler {
     scope: Scope,
     draft: Draft,
     faults: Faults,
+    /// The lines that say a role axiom first.
+    role_axioms: HashMap<RoleAxiom, usize>,
+    /// Those that say one again, with the first.
+    repeated: Vec<(usize, usize)>,
+}
+
+/// An inclusion or a composition.
+#[derive(Clone, Copy, PartialEq, Eq, Hash)]
+enum RoleAxiom {
+    Inclusion(Inclusion),
+    Composition(Composition),
 }
 
 impl Compiler {
+    /// All lines of a text.
+    fn read(text: &[u8]) -> Result<Compiler, Failure> {
+        let text = decoded(text).map_err(|fault| Failure::Faults(vec![fault]))?;
+        let mut compiler = Compiler::default();
+        for (line, number) in text.lines().zip(1..) {
+            compiler.line(number, line);
+        }
+        Ok(compiler)
+    }
+
+    /// Adds a role axiom, unless it is there.
+    fn role_axiom(&mut self, line: usize, axiom: RoleAxiom) {
+        match (self.role_axioms.get(&axiom), axiom) {
+            (Some(&first), _) => self.repeated.push((line, first)),
+            (None, RoleAxiom::Inclusion(inclusion)) => self.draft.inclusions.push(inclusion),
+            (None, RoleAxiom::Composition(composition)) => {
+                self.draft.compositions.push(composition)
+            }
+        }
+        self.role_axioms.entry(axiom).or_insert(line);
+    }
+
     fn line(&mut self, number: usize, line: &str) {
         let mut parser = Parser::new(number, line, &self.scope, &mut self.faults);
         if let Ok(statement) = parser.statement() {
@@ -88,8 +149,12 @@ impl Compiler {
                 let record = self.draft.define(&composite);
                 self.declare(line, name, Meaning::Let(record));
             }
-            Statement::Inclusion(inclusion) => self.draft.inclusions.push(inclusion),
-            Statement::Composition(composition) => self.draft.compositions.push(composition),
+            Statement::Inclusion(inclusion) => {
+                self.role_axiom(line, RoleAxiom::Inclusion(inclusion));
+            }
+            Statement::Composition(composition) => {
+                self.role_axiom(line, RoleAxiom::Composition(composition));
+            }
             Statement::Axioms(axioms) => {
                 for (left, right) in axioms {
                     let left = self.draft.find_or_add(&left);
@@ -113,11 +178,11 @@ impl Compiler {
         }
     }
 
-    fn finish(self) -> Result<Compiled, Failure> {
+    /// The catalogue in the making and its names, or all faults.
+    fn finish(self) -> Result<(Draft, Names), Failure> {
         if !self.faults.is_empty() {
             return Err(Failure::Faults(self.faults.told(&self.scope)));
         }
-        let catalogue = self.draft.build()?;
         let mut names = Names {
             concepts: vec![None; self.draft.concepts()],
             roles: vec![],
@@ -130,6 +195,6 @@ impl Compiler {
                 Meaning::Role(_) => names.roles.push(name),
             }
         }
-        Ok(Compiled { catalogue, names })
+        Ok((self.draft, names))
     }
 }

@@ -48,6 +48,21 @@ impl Draft {
         draft
     }
 
+    /// The same roles and role axioms, and nothing else.
+    pub(super) fn without_concepts(&self) -> Draft {
+        Draft {
+            roles: self.roles,
+            inclusions: self.inclusions.clone(),
+            compositions: self.compositions.clone(),
+            ..Draft::default()
+        }
+    }
+
+    /// The records, by number.
+    pub(super) fn records(&self) -> &[Record] {
+        &self.records
+    }
+
     /// How many records there are.
     pub(super) fn concepts(&self) -> usize {
         self.records.len()
@@ -189,9 +204,28 @@ impl Draft {
         let outside = LIMITS.iter().zip(counts);
         let outside = outside.filter(|((_, limits), count)| !limits.contains(count));
         let told = outside.map(|((what, _), count)| match u16::try_from(count) {
+            Ok(count) if *what == "concepts" && count > 0 => {
+                format!("{count} {what} ({})", self.sorts())
+            }
             Ok(count) => format!("{count} {what}"),
             Err(_) => format!("more than {} {what}", u16::MAX),
         });
         told.collect::<Vec<_>>().join(", ")
+    }
+
+    /// How many of the records are kinds and how many composites.
+    fn sorts(&self) -> String {
+        let kinds = self
+            .records
+            .iter()
+            .filter(|&&record| record == Record::Atomic);
+        let kinds = kinds.count();
+        let composites = self.records.len() - kinds;
+        let s = |count| if count == 1 { "" } else { "s" };
+        format!(
+            "{kinds} kind{}, {composites} composite{}",
+            s(kinds),
+            s(composites)
+        )
     }
 }

@@ -39,6 +39,26 @@ pub enum Failure {
     },
 }
 
+impl Failure {
+    /// The same with something added to a refusal's detail.
+    pub(super) fn with(self, more: &str) -> Failure {
+        match self {
+            Failure::Refused { refusal, detail } => Failure::Refused {
+                refusal,
+                detail: detail + more,
+            },
+            faults => faults,
+        }
+    }
+}
+
+impl From<Refusal> for Failure {
+    fn from(refusal: Refusal) -> Failure {
+        let detail = String::new();
+        Failure::Refused { refusal, detail }
+    }
+}
+
 /// What is wrong at a place.
 pub(super) enum Problem {
     Said(String),

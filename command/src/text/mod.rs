@@ -12,10 +12,11 @@
 //!
 //! Records are numbered as first met, parts first. Composites are equal if they are the same with
 //! every `let` written out; one that is written out is the lowest record equal to it, and `let`
-//! makes a new record. `=` is two axioms, and an axiom said twice counts once.
+//! makes a new record. `=` is two axioms, and an axiom or role axiom said twice counts once.
 //!
-//! - [`compile()`]: text to catalogue; [`print()`]: catalogue to text; [`owl()`]: catalogue to OWL
+//! - [`compile()`]: text to catalogue, [`compile_split`]: with right sides split; [`print()`]: catalogue to text; [`owl()`]: catalogue to OWL
 //! - [`expression()`], [`axioms`]: what stands on a command line, read by the same parser
+//! - [`used`], [`repeated`], [`splittable`]: what a text could do without
 //! - [`candidates`], [`extended`]: the records of an expression, found or added; [`entered`]: kinds
 
 mod compile;
@@ -30,15 +31,18 @@ mod parser;
 mod print;
 mod resolve;
 mod scope;
+mod split;
 mod statement;
+mod uses;
 
-pub use compile::{compile, Compiled};
+pub use compile::{compile, compile_split, repeated, split, Compiled};
 pub use expression::Expression;
 pub use faults::{Failure, Fault};
 pub use names::{is_name, quoted, Names};
 pub use nearest::nearest;
 pub use owl::owl;
-pub(crate) use print::parts;
-pub use print::print;
+pub use print::{print, statements};
 pub use resolve::Extended;
 pub use resolve::{axioms, candidates, entered, expression, extended, in_force, kinds, written};
+pub use split::splittable;
+pub use uses::{used, used_roles};

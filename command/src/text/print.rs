@@ -13,36 +13,38 @@ const WIDTH: usize = 100;
 
 /// The text of a catalogue.
 ///
-/// If `exact`, each composite has a `let`, and the text compiles to the same bytes. Else what can
-/// be written out is: a composite has a `let` if it has a name, or if it is used more than once and
+/// If `exact`, each composite has a `let`, and the text compiles to the same bytes, but for repeated
+/// role axioms. Else what can be written out is: a composite has a `let` if it has a name, or if it is used more than once and
 /// a composite is written out in it; one without a name that is in no axiom is left out. Either
 /// text is linear in the catalogue.
 ///
 /// What has no name gets one: `k`, `c` or `r` for a kind, composite or role, and its number, with
 /// `_` appended until it is free.
 pub fn print(catalogue: Catalogue<'_>, names: &Names, exact: bool) -> String {
-    let records: Vec<Record> = catalogue.records().collect();
-    let lines = lines(catalogue, &records, exact);
-    let printer = Printer {
-        catalogue,
-        by_name: match exact {
-            true => vec![true; records.len()],
-            false => by_name(&records, names, &lines),
-        },
-        records,
-        spelling: Spelling::new(names, catalogue),
-    };
+    let printer = Printer::new(catalogue, names, exact);
     let all = 0..printer.records.len();
     let (roles, role_axioms) = (printer.roles(), printer.role_axioms());
     let mut text = match exact {
         true => roles + &role_axioms + &printer.in_order(),
         false => printer.kinds(all.clone()) + &roles + &role_axioms + &printer.lets(all),
     };
-    for (Axiom { left, right }, sign) in lines {
-        let (left, right) = (printer.side(left), printer.side(right));
-        text += &format!("{left} {sign} {right}\n");
+    for &(axiom, sign) in &printer.lines {
+        text += &format!("{}\n", printer.statement(axiom, sign));
     }
     text
+}
+
+/// The axioms as the lines of that text say them, each with its line: of two that `=` joins, the one
+/// that it reads as.
+pub fn statements(catalogue: Catalogue<'_>, names: &Names) -> Vec<(Axiom, String)> {
+    let printer = Printer::new(catalogue, names, false);
+    let statement = |&(axiom, sign): &(Axiom, char)| (axiom, printer.statement(axiom, sign));
+    printer.lines.iter().map(statement).collect()
+}
+
+/// Which records that text writes by name: kinds, and composites that have a `let` there.
+pub(super) fn written_by_name(catalogue: Catalogue<'_>, names: &Names) -> Vec<bool> {
+    Printer::new(catalogue, names, false).by_name
 }
 
 fn index(Concept(number): Concept) -> usize {
@@ -130,11 +132,34 @@ fn declaration<'a>(keyword: &str, names: impl Iterator<Item = &'a String>) -> St
 struct Printer<'a> {
     catalogue: Catalogue<'a>,
     records: Vec<Record>,
+    /// The axioms by lines, with the sign between their sides.
+    lines: Vec<(Axiom, char)>,
     by_name: Vec<bool>,
     spelling: Spelling,
 }
 
-impl Printer<'_> {
+impl<'a> Printer<'a> {
+    fn new(catalogue: Catalogue<'a>, names: &Names, exact: bool) -> Printer<'a> {
+        let records: Vec<Record> = catalogue.records().collect();
+        let lines = lines(catalogue, &records, exact);
+        let by_name = match exact {
+            true => vec![true; records.len()],
+            false => by_name(&records, names, &lines),
+        };
+        Printer {
+            catalogue,
+            records,
+            lines,
+            by_name,
+            spelling: Spelling::new(names, catalogue),
+        }
+    }
+
+    /// The line of an axiom.
+    fn statement(&self, Axiom { left, right }: Axiom, sign: char) -> String {
+        format!("{} {sign} {}", self.side(left), self.side(right))
+    }
+
     fn role(&self, Role(number): Role) -> &str {
         &self.spelling.roles[usize::from(number)]
     }

@@ -5,9 +5,10 @@ use girvotal::{Axiom, Catalogue, Concept, Record};
 use super::compile::Compiled;
 use super::draft::Draft;
 use super::expression::{Expression, Node};
-use super::faults::{Failure, Fault, Faults, Problem};
+use super::faults::{not_declared, Failure, Fault, Faults, Problem};
 use super::lexer::comment;
-use super::names::{quoted, Names, Spelling};
+use super::names::{is_word, quoted, Names, Spelling};
+use super::nearest::nearest;
 use super::parser::{Ended, Parser};
 use super::scope::{Meaning, Scope};
 
@@ -49,7 +50,7 @@ pub fn expression(
     let Some(Meaning::Kind(concept) | Meaning::Let(concept)) =
         scope.get(source).map(|declared| declared.meaning)
     else {
-        return result;
+        return result.map_err(|faults| misspelt(source, &scope).unwrap_or(faults));
     };
     match result {
         Ok(other) if other.named() != Some(concept) => Err(vec![Fault {
@@ -63,6 +64,20 @@ pub fn expression(
         }]),
         _ => Ok(Expression::new(vec![Node::Named(concept)])),
     }
+}
+
+/// What is said of an argument that is near to a name with spaces, or another that is quoted.
+fn misspelt(source: &str, scope: &Scope) -> Option<Vec<Fault>> {
+    let concepts = scope
+        .names()
+        .filter(|(_, meaning)| !matches!(meaning, Meaning::Role(_)));
+    let quotable = concepts.map(|(name, _)| name).filter(|name| !is_word(name));
+    let near = quoted(nearest(source, quotable)?);
+    Some(vec![Fault {
+        line: 1,
+        column: 1,
+        message: not_declared(source, Some(&near)),
+    }])
 }
 
 /// The axioms that an argument says, by their sides: one of `A < B`, two of `A = B`. Another

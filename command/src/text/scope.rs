@@ -5,6 +5,7 @@ use std::collections::hash_map::{Entry, HashMap};
 use girvotal::{Catalogue, Concept, Record, Role};
 
 use super::names::Names;
+use super::print::written_by_name;
 
 /// What a name stands for.
 #[derive(Clone, Copy, Debug, PartialEq, Eq)]
@@ -40,11 +41,15 @@ pub(super) struct Scope {
 }
 
 impl Scope {
-    /// The names of a catalogue, with those that a text of it would make up.
+    /// The names of a catalogue, with those that a text of it makes up and writes.
     pub(super) fn of(names: &Names, catalogue: Catalogue<'_>) -> Scope {
+        let written = written_by_name(catalogue, names);
         let names = names.completed(catalogue);
         let mut scope = Scope::default();
         for ((name, record), number) in names.concepts.iter().zip(catalogue.records()).zip(0..) {
+            if !written[usize::from(number)] {
+                continue;
+            }
             let meaning = match record {
                 Record::Atomic => Meaning::Kind(Concept(number)),
                 _ => Meaning::Let(Concept(number)),

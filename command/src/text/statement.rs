@@ -56,10 +56,12 @@ impl Parser<'_> {
     /// The axioms of a line that says nothing else.
     pub(super) fn axioms_alone(&mut self) -> Parsed<Vec<Sides>> {
         if let Lexeme::Fixed(word @ ("kind" | "role" | "let")) = *self.lexeme() {
-            return self.error(format!(
+            let wrong = self.error(format!(
                 "`{word}` is no axiom: print the text by `girvotal text STATE`, change it, and \
                  `girvotal update STATE TEXT`"
             ));
+            self.at = self.tokens.len();
+            return wrong;
         }
         if self.is_role_axiom()? {
             return self

@@ -5,6 +5,7 @@ mod changes;
 mod diff;
 mod explain;
 mod format;
+mod lint;
 mod pairs;
 mod query;
 mod table;
@@ -63,13 +64,18 @@ fn read_state(path: &OsStr, streams: &mut Streams<'_>) -> Result<State, Failure>
 /// A text's file, compiled.
 fn read_text(path: &OsStr, streams: &mut Streams<'_>) -> Result<Compiled, Failure> {
     let bytes = files::read(path, streams)?;
-    match Format::of(&bytes) {
+    compiled_text(path, &bytes)
+}
+
+/// The bytes of a file that must be a text, compiled.
+fn compiled_text(path: &OsStr, bytes: &[u8]) -> Result<Compiled, Failure> {
+    match Format::of(bytes) {
         format @ (Format::Catalogue | Format::State) => Err(Failure::Usage(format!(
             "{path} is {}, and a text is meant here; `girvotal text {path}` prints one",
             format.what(),
             path = shown(path)
         ))),
-        _ => compiled(path, &bytes),
+        _ => compiled(path, bytes),
     }
 }
 

@@ -64,10 +64,15 @@ const WAIT: Flag = Flag {
 pub const VERBS: &[Verb] = &[
     Verb {
         name: "check",
-        usage: "TEXT",
+        usage: "TEXT [--lint]",
         operands: &["TEXT"],
         optional: 0,
-        flags: &[],
+        flags: &[Flag {
+            name: "--lint",
+            value: "",
+            help: "print what it could do without: kinds and roles that nothing uses, kinds that \
+                   came out equal, repeated role axioms, right sides that could be split",
+        }],
         summary: "check a text",
         help: "Checks a text and prints how much it declares, or all its errors.",
         run: texts::check,
@@ -84,19 +89,25 @@ pub const VERBS: &[Verb] = &[
     },
     Verb {
         name: "text",
-        usage: "FILE [--exact | --owl]",
+        usage: "FILE [--exact | --owl | --split]",
         operands: &["FILE"],
         optional: 0,
         flags: &[
             Flag {
                 name: "--exact",
                 value: "",
-                help: "one statement for each record, so that it compiles back to the same bytes",
+                help: "one statement for each record, so that it compiles back to the same bytes, but \
+                       for repeated role axioms",
             },
             Flag {
                 name: "--owl",
                 value: "",
                 help: "OWL 2 in functional-style syntax, a class for each record",
+            },
+            Flag {
+                name: "--split",
+                value: "",
+                help: "right sides split, `A < B and C` as `A < B` and `A < C`: fewer concepts",
             },
         ],
         summary: "print a catalogue as text or as OWL",

@@ -1,9 +1,12 @@
 //! Texts, catalogues and states, made of each other.
 
+use std::ffi::OsStr;
+
 use girvotal::{Catalogue, Record};
 
 use super::format::Format;
-use super::{count, read_any, read_state, read_text, shown};
+use super::lint::Lint;
+use super::{any, compiled_text, count, failed, read_any, read_state, read_text, shown};
 use crate::arguments::Given;
 use crate::failure::Failure;
 use crate::files::{self, Target};
@@ -95,9 +98,19 @@ pub fn made(
     Ok(report)
 }
 
-/// `check TEXT`
+/// `check TEXT [--lint]`
 pub fn check(given: &Given, streams: &mut Streams<'_>) -> Result<Report, Failure> {
-    told(&read_text(given.operand(0), streams)?.catalogue)
+    let path = given.operand(0);
+    let bytes = files::read(path, streams)?;
+    let compiled = compiled_text(path, &bytes)?;
+    let amounts = Amounts::of(Catalogue::new(&compiled.catalogue)?);
+    let (mut text, mut fields) = (format!("{}\n", amounts.text()), amounts.fields());
+    if given.has("--lint") {
+        let lint = Lint::of(&compiled, &bytes)?;
+        text += &lint.text();
+        fields.extend(lint.fields());
+    }
+    Ok(Report::done(text, Json::Object(fields)))
 }
 
 /// `compile TEXT -o CATALOGUE`
@@ -107,15 +120,20 @@ pub fn compile(given: &Given, streams: &mut Streams<'_>) -> Result<Report, Failu
     made(given, (Format::Catalogue, &catalogue), report, streams)
 }
 
-/// `text FILE [--exact | --owl]`
+/// `text FILE [--exact | --owl | --split]`
 pub fn text(given: &Given, streams: &mut Streams<'_>) -> Result<Report, Failure> {
-    let (exact, owl) = (given.has("--exact"), given.has("--owl"));
-    if exact && owl {
+    let options = ["--exact", "--owl", "--split"].map(|option| given.has(option));
+    let [exact, owl, split] = options;
+    if options.iter().filter(|&&option| option).count() > 1 {
         return Err(Failure::Usage(
-            "only one of `--exact` and `--owl` can be given; leave one out".into(),
+            "only one of `--exact`, `--owl` and `--split` can be given; leave the others out"
+                .into(),
         ));
     }
-    let Compiled { catalogue, names } = read_any(given.operand(0), streams)?;
+    let Compiled { catalogue, names } = match split {
+        true => read_split(given.operand(0), streams)?,
+        false => read_any(given.operand(0), streams)?,
+    };
     let catalogue = Catalogue::new(&catalogue)?;
     let text = match owl {
         true => text::owl(catalogue, &names),
@@ -123,6 +141,16 @@ pub fn text(given: &Given, streams: &mut Streams<'_>) -> Result<Report, Failure>
     };
     let json = Json::Object(vec![("text", text.as_str().into())]);
     Ok(Report::done(text, json))
+}
+
+/// A file with right sides split; a text also where it is over the limits without.
+fn read_split(path: &OsStr, streams: &mut Streams<'_>) -> Result<Compiled, Failure> {
+    let bytes = files::read(path, streams)?;
+    let split = match Format::of(&bytes) {
+        Format::Catalogue | Format::State => text::split(&any(path, bytes)?),
+        _ => text::compile_split(&bytes),
+    };
+    split.map_err(|failure| failed(shown(path), failure))
 }
 
 /// `classify FILE -o STATE`

@@ -2,12 +2,15 @@
 
 #![allow(dead_code)]
 
+use std::collections::HashSet;
 use std::ffi::OsString;
 use std::fs;
 use std::io::Write;
 use std::path::{Path, PathBuf};
 use std::process::{Command, Output, Stdio};
 use std::sync::atomic::{AtomicUsize, Ordering};
+
+use girvotal::{Builder, Catalogue};
 
 /// A new folder, removed when dropped, with the texts and catalogues of `data/`.
 pub struct Folder {
@@ -36,6 +39,30 @@ pub fn data_files(ending: &str) -> Vec<PathBuf> {
     paths.sort();
     assert!(!paths.is_empty(), "files .{ending} in data");
     paths
+}
+
+/// A catalogue with each role axiom once, as a text has them.
+pub fn once(bytes: &[u8]) -> Vec<u8> {
+    let catalogue = Catalogue::new(bytes).expect("accepted");
+    let mut builder = Builder::new();
+    catalogue.records().for_each(|record| {
+        builder.record(record);
+    });
+    (0..catalogue.roles()).for_each(|_| {
+        builder.role();
+    });
+    let mut seen = HashSet::new();
+    for inclusion in catalogue.inclusions().filter(|&i| seen.insert(i)) {
+        builder.inclusion(inclusion.within, inclusion.around);
+    }
+    let mut seen = HashSet::new();
+    for composition in catalogue.compositions().filter(|&c| seen.insert(c)) {
+        builder.composition(composition.first, composition.second, composition.result);
+    }
+    for axiom in catalogue.axioms() {
+        builder.axiom(axiom.left, axiom.right);
+    }
+    builder.build().expect("accepted")
 }
 
 impl Folder {

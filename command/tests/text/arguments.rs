@@ -146,9 +146,12 @@ fn axioms_by_their_sides() {
             "tap",
             "1:4: error: expected `and`, `<` or `=`, found the end of the line",
         ),
-        ("kind x", "1:1: error: expected an axiom, found `kind`"),
-        ("role x", "1:1: error: expected an axiom, found `role`"),
-        ("let x = any", "1:1: error: expected an axiom, found `let`"),
+        ("kind x", "1:1: error: `kind` is no axiom: print the text by `girvotal text STATE`, change it, and \
+             `girvotal update STATE TEXT`"),
+        ("role x", "1:1: error: `role` is no axiom: print the text by `girvotal text STATE`, change it, and \
+             `girvotal update STATE TEXT`"),
+        ("let x = any", "1:1: error: `let` is no axiom: print the text by `girvotal text STATE`, change it, and \
+             `girvotal update STATE TEXT`"),
         (
             "has < has",
             "1:1: error: role axioms cannot be changed; classify the changed text",
@@ -254,7 +257,7 @@ fn extended_over_a_limit() {
         panic!("513 records are accepted");
     };
     assert_eq!(refusal.question, Question::Counts);
-    assert_eq!(detail, "513 concepts");
+    assert_eq!(detail, "513 concepts (511 kinds, 2 composites)");
 }
 
 /// Deep expressions, and those with many equal parts, are no trouble.

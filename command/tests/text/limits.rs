@@ -1,7 +1,8 @@
 //! Texts at the limits of a catalogue, and over them.
 
-use girvotal::Question;
-use girvotal_command::text::{compile, Failure};
+use crate::compiled;
+use girvotal::{Catalogue, Question};
+use girvotal_command::text::{compile, compile_split, print, Compiled, Failure};
 use std::fmt::Write;
 
 /// Names of so many kinds or roles, by commas.
@@ -33,10 +34,15 @@ fn concepts() {
     let kinds = |count| format!("kind {}\n", list('k', count));
     assert_eq!(refused(&kinds(512)), None);
     assert_eq!(refused(&(kinds(511) + "k0 < k1 and k2\n")), None);
-    refused_for("513 concepts", &kinds(513));
-    refused_for("513 concepts", &(kinds(512) + "k0 < k1 and k2\n"));
+    refused_for("513 concepts (513 kinds, 0 composites)", &kinds(513));
+    refused_for(
+        "513 concepts (512 kinds, 1 composite), 1 fewer with right sides split: `girvotal text TEXT \
+         --split`",
+        &(kinds(512) + "k0 < k1 and k2\n"),
+    );
     for count in [10_000, 10_920, 10_921, 65_535] {
-        refused_for(&format!("{count} concepts"), &kinds(count));
+        let detail = format!("{count} concepts ({count} kinds, 0 composites)");
+        refused_for(&detail, &kinds(count));
     }
     for count in [65_536, 65_537, 70_000] {
         refused_for("more than 65535 concepts", &kinds(count));
@@ -54,15 +60,20 @@ fn role_axioms() {
         "more than 65535 roles",
         &(roles(70_000) + "k < r69999 some k\n"),
     );
+    let some = |count: usize, axiom: fn(usize, usize) -> String| {
+        let axioms = (0..count).map(|i| axiom(i / 16, i % 16));
+        roles(16) + &axioms.collect::<String>()
+    };
+    let inclusion = |r, s| format!("r{r} < r{s}\n");
+    let composition = |r, s| format!("r{r} then r{s} < r0\n");
+    assert_eq!(refused(&some(64, inclusion)), None);
+    refused_for("65 inclusions", &some(65, inclusion));
+    assert_eq!(refused(&some(64, composition)), None);
+    refused_for("65 compositions", &some(65, composition));
+    // Those that are repeated count once.
     let times = |line: &str, count| roles(2) + &line.repeat(count);
-    assert_eq!(refused(&times("r0 < r1\n", 64)), None);
-    refused_for("65 inclusions", &times("r0 < r1\n", 65));
-    assert_eq!(refused(&times("r0 then r1 < r1\n", 64)), None);
-    refused_for("65 compositions", &times("r0 then r1 < r1\n", 65));
-    refused_for(
-        "more than 65535 compositions",
-        &times("r0 then r1 < r1\n", 70_000),
-    );
+    assert_eq!(refused(&times("r0 < r1\n", 70_000)), None);
+    assert_eq!(refused(&times("r0 then r1 < r1\n", 70_000)), None);
 }
 
 #[test]
@@ -78,7 +89,10 @@ fn axioms() {
     assert_eq!(refused(&(axioms(4_096) + "k0 < k0\n")), None);
     refused_for("4097 axioms", &axioms(4_097));
     let all = axioms(4_097) + &format!("role {}\nkind {}\n", list('r', 17), list('l', 500));
-    refused_for("565 concepts, 17 roles, 4097 axioms", &all);
+    refused_for(
+        "565 concepts (565 kinds, 0 composites), 17 roles, 4097 axioms",
+        &all,
+    );
 }
 
 /// Expressions of any depth: too many records, and no more trouble than that.
@@ -87,11 +101,15 @@ fn depth() {
     let declared = "kind a\nrole r\n";
     let deep = |count| format!("{declared}a < {}a\n", "r some ".repeat(count));
     assert_eq!(refused(&deep(511)), None);
-    refused_for("513 concepts", &deep(512));
+    refused_for("513 concepts (1 kind, 512 composites)", &deep(512));
     refused_for("more than 65535 concepts", &deep(100_000));
     let wide = |count| format!("{declared}a < a{}\n", " and a".repeat(count));
     assert_eq!(refused(&wide(511)), None);
-    refused_for("513 concepts", &wide(512));
+    refused_for(
+        "513 concepts (1 kind, 512 composites), 512 fewer with right sides split: `girvotal text \
+         TEXT --split`",
+        &wide(512),
+    );
     refused_for("more than 65535 concepts", &wide(100_000));
     let nested = |count| {
         let (open, close) = ("(".repeat(count), ")".repeat(count));
@@ -117,4 +135,21 @@ fn wide_and_equal() {
     let compiled = compile(format!("kind a\na < {expression}\n").as_bytes()).expect("a right text");
     assert_eq!(crate::records(&compiled.catalogue).len(), 18);
     assert_eq!(crate::axioms(&compiled.catalogue), [(0, 17)]);
+}
+
+/// Over the limit it is told how many are kinds, and how many fewer there are with right sides
+/// split; that text is within the limits then.
+#[test]
+fn over_by_right_sides() {
+    let kinds = format!("kind {}\nrole r\n", list('k', 300));
+    let axiom = |i: usize| format!("k{i} < k{} and r some k{}\n", i + 1, i + 2);
+    let text = kinds + &(0..150).map(axiom).collect::<String>();
+    let detail = "600 concepts (300 kinds, 300 composites), 150 fewer with right sides split: \
+                  `girvotal text TEXT --split`";
+    refused_for(detail, &text);
+    let Compiled { catalogue, names } = compile_split(text.as_bytes()).expect("within the limits");
+    let catalogue = Catalogue::new(&catalogue).expect("accepted");
+    assert_eq!((catalogue.concepts(), catalogue.axioms().len()), (450, 300));
+    let again = compiled(&print(catalogue, &names, false));
+    assert_eq!(again.catalogue.len(), catalogue.bytes().len());
 }

@@ -3,6 +3,8 @@
 use std::io::{BufRead, BufReader, Write};
 use std::process::Stdio;
 
+use girvotal_command::text::quoted;
+
 use crate::check;
 use crate::support::Folder;
 
@@ -24,7 +26,7 @@ fn odd_names() {
             ("lookup s -- --json water", 0, "yes\n", ""),
             ("lookup s 'tap and water' water", 3, "", ambiguous),
             ("lookup s '\"tap and water\"' water", 1, "no\n", ""),
-            ("list s c6", 0, "any\n", ""),
+            ("list s 'r some tap'", 0, "any\n", ""),
         ],
     );
     let (status, _, errors) = folder.run("list s any");
@@ -141,4 +143,66 @@ fn direct() {
             ),
         ],
     );
+}
+
+/// A misspelt name with spaces is known as a whole.
+#[test]
+fn misspelt_names() {
+    let folder = Folder::with_lake();
+    for source in [
+        "Seeplatz Sud",
+        "seeplatz Süd",
+        "Seplatz Süd",
+        "Seeplatz-Süd",
+    ] {
+        let error = format!(
+            "`{source}`:1:1: error: `{}` is not declared; did you mean `\"Seeplatz Süd\"`?\n",
+            quoted(source)
+        );
+        for line in [
+            format!("lookup lake.state '{source}' pitch"),
+            format!("query lake.state '{source}'"),
+        ] {
+            check(&folder, &[(&line, 3, "", &error)]);
+        }
+    }
+    // Of what is near to no name, the parts are told.
+    let (_, _, errors) = folder.run("list lake.state 'pich and tapp'");
+    assert!(
+        errors.contains("did you mean `pitch`?") && errors.contains("`tap`?"),
+        "{errors}"
+    );
+}
+
+/// A name that `text` makes up names a record where `text` prints it, and nowhere else.
+#[test]
+fn made_up_names() {
+    let folder = Folder::new();
+    let shared = "kind a, b, c\nrole r\na < r some (r some b)\nc < r some (r some b)\n";
+    folder.write("shared.gv", shared);
+    folder.done("classify shared.gv -o s");
+    let text = folder.done("text s");
+    assert!(text.contains("let c4 = r some r some b\n"), "{text}");
+    check(
+        &folder,
+        &[
+            ("list s c4", 0, "a\nc\n", ""),
+            (
+                "list s c3",
+                3,
+                "",
+                "`c3`:1:1: error: `c3` is not declared; did you mean `c`?\n",
+            ),
+        ],
+    );
+    folder.done("withdraw s 'c < c4'");
+    let (status, _, errors) = folder.run("list s c4");
+    assert_eq!(
+        (status, folder.done("text s").contains("c4")),
+        (3, false),
+        "{errors}"
+    );
+    // So a kind can have such a name.
+    folder.done("add s 'kind c4'");
+    assert_eq!(folder.done("list s c4"), "c4\n");
 }

@@ -3,7 +3,7 @@
 use girvotal_command::state::State;
 
 use crate::check;
-use crate::support::{data_files, Folder};
+use crate::support::{data_files, once, Folder};
 
 #[test]
 fn wrong_texts() {
@@ -76,8 +76,8 @@ fn wrong_texts() {
     assert_eq!(json, (3, object.to_string(), String::new()));
 }
 
-/// The catalogues of `data/`: printed exactly, they compile to the same bytes; their states answer
-/// as the library does.
+/// The catalogues of `data/`: printed exactly, they compile to the same bytes, but for repeated role
+/// axioms; their states answer as the library does.
 #[test]
 fn data() {
     let folder = Folder::new();
@@ -91,7 +91,7 @@ fn data() {
         folder.done("compile exact.gv -o exact.bin");
         assert_eq!(
             folder.read("exact.bin"),
-            folder.read(&format!("{name}.bin")),
+            once(&folder.read(&format!("{name}.bin"))),
             "{name}"
         );
         folder.done(&format!("classify {name}.bin -o a.state"));
@@ -109,4 +109,83 @@ fn data() {
             "{name}"
         );
     }
+}
+
+/// What a text could do without.
+#[test]
+fn lint() {
+    let folder = Folder::new();
+    let text = "kind a, b, c, d, e, \"not used\"\nrole r, s, t, spare\nr < s\nr then s < s\n\
+                r < s # again\nr then s < s\na < b and r some c\nb = c and d\nc < d\nd < c\n\
+                let never = t some e\n";
+    folder.write("t.gv", text);
+    let counts = "6 kinds, 4 roles, 10 concepts, 5 axioms\n";
+    let lint = "unused kind: e\nunused kind: \"not used\"\nunused role: t\nunused role: spare\n\
+                equal kinds: b = c = d\nrepeated role axiom: line 5 says what line 3 says\n\
+                repeated role axiom: line 6 says what line 4 says\n\
+                could be split: a < b and r some c\n\
+                1 concept fewer with right sides split: `girvotal text TEXT --split`\n";
+    let json = "{\"kinds\": 6, \"roles\": 4, \"concepts\": 10, \"axioms\": 5, \"unused_kinds\": \
+                [\"e\", \"not used\"], \"unused_roles\": [\"t\", \"spare\"], \"equal\": [[\"b\", \
+                \"c\", \"d\"]], \"repeated\": [{\"line\": 5, \"first\": 3}, {\"line\": 6, \"first\": \
+                4}], \"splittable\": [\"a < b and r some c\"], \"fewer\": 1}\n";
+    check(
+        &folder,
+        &[
+            ("check t.gv", 0, counts, ""),
+            ("check t.gv --lint", 0, &format!("{counts}{lint}"), ""),
+            ("check t.gv --lint --json", 0, json, ""),
+        ],
+    );
+    folder.write("clean.gv", "kind a, b\nrole r\na < r some b\n");
+    let clean = "2 kinds, 1 role, 3 concepts, 1 axiom\n";
+    assert_eq!(folder.done("check clean.gv --lint"), clean);
+}
+
+/// Split texts say the same, with fewer concepts where a right side can be split.
+#[test]
+fn split() {
+    let folder = Folder::with_lake();
+    for (file, concepts) in [("campsite.gv", 99), ("lake.gv", 17), ("w1.gv", 7)] {
+        let split = folder.done(&format!("text {file} --split"));
+        folder.write("split.gv", &split);
+        assert_eq!(
+            folder.done(&format!("diff {file} split.gv")),
+            "0 lost, 0 gained\n"
+        );
+        let told = folder.done("check split.gv");
+        assert!(
+            told.contains(&format!(", {concepts} concepts, ")),
+            "{file}: {told}"
+        );
+        assert!(
+            !folder.done("check split.gv --lint").contains("split"),
+            "{file}"
+        );
+        assert_eq!(folder.done("text split.gv --split"), split, "{file}");
+    }
+    // Of a catalogue and a state too; what has a name or stands elsewhere stays.
+    for file in data_files("bin") {
+        let name = file
+            .file_name()
+            .and_then(|name| name.to_str())
+            .expect("a name");
+        folder.write("split.gv", folder.done(&format!("text {name} --split")));
+        folder.write("plain.gv", folder.done(&format!("text {name}")));
+        assert_eq!(
+            folder.done("diff plain.gv split.gv"),
+            "0 lost, 0 gained\n",
+            "{name}"
+        );
+    }
+    folder.write(
+        "kept.gv",
+        "kind a, b, c\nlet x = b and c\na < x\nb = a and c\nc < a and c\n",
+    );
+    let kept = folder.done("text kept.gv --split");
+    assert_eq!(kept, folder.done("text kept.gv"));
+    assert_eq!(
+        folder.done("text lake.state --split"),
+        folder.done("text lake.gv --split")
+    );
 }

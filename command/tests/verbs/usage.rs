@@ -32,11 +32,11 @@ fn usage() {
         ),
         (
             "text lake.gv --exakt",
-            "text has no option `--exakt`; usage: girvotal text FILE [--exact | --owl]; did you mean `--exact`?",
+            "text has no option `--exakt`; usage: girvotal text FILE [--exact | --owl | --split]; did you mean `--exact`?",
         ),
         (
             "text lake.gv --exact --owl",
-            "only one of `--exact` and `--owl` can be given; leave one out",
+            "only one of `--exact`, `--owl` and `--split` can be given; leave the others out",
         ),
         ("add - 'tap < water'", "a state that is changed is a file, not `-`; name one"),
         (

@@ -1,9 +1,9 @@
 //! The kinds of a state, arranged by what the library says lies under what.
 
-use girvotal::{Axiom, Catalogue, Concept, Record, Refusal, Row};
+use girvotal::{Concept, Refusal, Row};
 
 use crate::state::State;
-use crate::text::parts;
+use crate::text::used;
 
 /// Kinds of which each lies under the other.
 pub struct Entry<'s> {
@@ -118,23 +118,6 @@ impl<'s> Tree<'s> {
     pub fn kinds(&self) -> usize {
         self.entries.iter().map(|entry| entry.names.len()).sum()
     }
-}
-
-/// Which concepts are in an axiom, as a side or in one.
-fn used(catalogue: Catalogue<'_>) -> Vec<bool> {
-    let records: Vec<Record> = catalogue.records().collect();
-    let mut used = vec![false; records.len()];
-    for Axiom { left, right } in catalogue.axioms() {
-        used[usize::from(left.0)] = true;
-        used[usize::from(right.0)] = true;
-    }
-    // From the last on: parts have smaller numbers than their record.
-    for (number, &record) in records.iter().enumerate().rev() {
-        if used[number] {
-            parts(record).for_each(|part| used[part] = true);
-        }
-    }
-    used
 }
 
 /// Enters what is above and below: of the entries above one, those are direct that are above no

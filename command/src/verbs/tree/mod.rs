@@ -14,7 +14,8 @@ use crate::failure::Failure;
 use crate::files;
 use crate::json::Json;
 use crate::{Report, Streams};
-use arranged::{Entry, Place, Tree};
+pub use arranged::Tree;
+use arranged::{Entry, Place};
 
 /// `tree STATE [--dot | --html] [-o FILE]`
 pub fn tree(given: &Given, streams: &mut Streams<'_>) -> Result<Report, Failure> {
