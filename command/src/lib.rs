@@ -12,6 +12,7 @@
 #![deny(unsafe_code)]
 
 pub mod arguments;
+mod clock;
 pub mod completion;
 pub mod failure;
 pub mod files;

@@ -41,7 +41,7 @@ pub use faults::{Failure, Fault};
 pub use names::{is_name, quoted, Names};
 pub use nearest::nearest;
 pub use owl::owl;
-pub use print::{print, statements};
+pub use print::{print, statements, Line};
 pub use resolve::Extended;
 pub use resolve::{axioms, candidates, entered, expression, extended, in_force, kinds, written};
 pub use split::splittable;

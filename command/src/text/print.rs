@@ -11,6 +11,9 @@ use super::names::{Names, Spelling};
 /// The column at which lists of names are broken.
 const WIDTH: usize = 100;
 
+/// The words, one for each part, above which a composite is long.
+const LONG: usize = 100;
+
 /// The text of a catalogue.
 ///
 /// If `exact`, each composite has a `let`, and the text compiles to the same bytes, but for repeated
@@ -34,11 +37,26 @@ pub fn print(catalogue: Catalogue<'_>, names: &Names, exact: bool) -> String {
     text
 }
 
-/// The axioms as the lines of that text say them, each with its line: of two that `=` joins, the one
-/// that it reads as.
-pub fn statements(catalogue: Catalogue<'_>, names: &Names) -> Vec<(Axiom, String)> {
-    let printer = Printer::new(catalogue, names, false);
-    let statement = |&(axiom, sign): &(Axiom, char)| (axiom, printer.statement(axiom, sign));
+/// An axiom as a line of a catalogue's text.
+pub struct Line {
+    /// The axiom; of two that `=` joins, the one that it reads as.
+    pub axiom: Axiom,
+    /// Whether its converse is said too, by `=`.
+    pub both: bool,
+    /// The line.
+    pub text: String,
+}
+
+/// The axioms as lines of that text that can stand alone: a composite without a name is written out,
+/// unless it is long.
+pub fn statements(catalogue: Catalogue<'_>, names: &Names) -> Vec<Line> {
+    let mut printer = Printer::new(catalogue, names, false);
+    printer.write_out(names);
+    let statement = |&(axiom, sign): &(Axiom, char)| Line {
+        axiom,
+        both: sign == '=',
+        text: printer.statement(axiom, sign),
+    };
     printer.lines.iter().map(statement).collect()
 }
 
@@ -152,6 +170,20 @@ impl<'a> Printer<'a> {
             lines,
             by_name,
             spelling: Spelling::new(names, catalogue),
+        }
+    }
+
+    /// Writes out the composites without a name that are not long.
+    fn write_out(&mut self, names: &Names) {
+        let mut words: Vec<usize> = vec![];
+        for (number, &record) in self.records.iter().enumerate() {
+            let named = matches!(names.concepts.get(number), Some(Some(_)));
+            let parts = parts(record).map(|part| words[part]);
+            words.push(match named {
+                true => 1,
+                false => parts.fold(1, usize::saturating_add),
+            });
+            self.by_name[number] &= named || words[number] > LONG;
         }
     }
 

@@ -8,7 +8,7 @@ use super::compile::Compiled;
 use super::draft::Draft;
 use super::faults::Failure;
 use super::names::Names;
-use super::print::{parts, statements};
+use super::print::{parts, statements, Line};
 
 /// What splitting does to a draft.
 pub(super) struct Split {
@@ -143,8 +143,8 @@ pub fn splittable(compiled: &Compiled) -> Result<(Vec<String>, usize), Failure> 
     let Some(split) = Split::of(&draft, names) else {
         return Ok((vec![], 0));
     };
-    let parted = |(axiom, _): &(Axiom, String)| split.parted.contains(axiom);
+    let parted = |line: &Line| split.parted.contains(&line.axiom);
     let parted = statements(catalogue, names).into_iter().filter(parted);
     let fewer = draft.concepts() - split.concepts();
-    Ok((parted.map(|(_, line)| line).collect(), fewer))
+    Ok((parted.map(|line| line.text).collect(), fewer))
 }

@@ -16,7 +16,7 @@ use crate::text::{self, Compiled};
 use crate::{Report, Streams};
 
 /// How much a catalogue has.
-struct Amounts {
+pub struct Amounts {
     kinds: usize,
     roles: usize,
     concepts: usize,
@@ -24,7 +24,8 @@ struct Amounts {
 }
 
 impl Amounts {
-    fn of(catalogue: Catalogue<'_>) -> Amounts {
+    /// Of a catalogue.
+    pub fn of(catalogue: Catalogue<'_>) -> Amounts {
         let atomic = catalogue
             .records()
             .filter(|record| *record == Record::Atomic);
@@ -36,7 +37,8 @@ impl Amounts {
         }
     }
 
-    fn text(&self) -> String {
+    /// In words.
+    pub fn text(&self) -> String {
         let parts = [
             count(self.kinds, "kind"),
             count(self.roles, "role"),

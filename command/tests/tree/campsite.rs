@@ -35,11 +35,12 @@ fn text() {
 fn page() {
     let folder = Folder::new();
     folder.done("classify campsite.gv -o campsite.state");
-    folder.done("tree campsite.state --html -o campsite.html");
+    let line = "SOURCE_DATE_EPOCH=1767225600 girvotal tree campsite.state --html -o campsite.html";
+    assert_eq!(folder.shell(line).0, 0);
     let page = folder.read("campsite.html");
     assert!(
         page == document("campsite.html"),
-        "docs/campsite.html is not what `girvotal tree --html` makes of data/campsite.gv"
+        "docs/campsite.html is not what this makes of data/campsite.gv: {line}"
     );
     let places = on_page(std::str::from_utf8(&page).expect("UTF-8"));
     let firsts = places.iter().filter(|place| place.first);

@@ -7,6 +7,7 @@ mod support;
 #[allow(dead_code)]
 mod sources;
 
+mod browser;
 mod campsite;
 mod large;
 mod names;
@@ -16,7 +17,7 @@ mod xml;
 
 use girvotal_command::json::Json;
 use girvotal_command::state::State;
-use picture::{drawn, places, state};
+use picture::{drawn, places, state, Place};
 use support::Folder;
 
 /// The lake's tree.
@@ -191,4 +192,53 @@ fn files() {
         let errors = format!("girvotal: {sentence}\n");
         assert_eq!(folder.run(line), (status, String::new(), errors), "{line}");
     }
+}
+
+/// Under a kind stand its own axioms: those of which it is the left side, or a side of `=`.
+#[test]
+fn axioms() {
+    let text = "kind a, b, c, d, e\nrole r\na < b and r some c\na < d\nb = c\nd = r some e\n\
+                r some e < c\nany < c\ne < c\n";
+    let places = places(&state(text));
+    let of = |name: &str| {
+        let with = |place: &&Place| place.first && place.names.iter().any(|other| other == name);
+        let place = places.iter().find(with).expect("a place");
+        place.axioms.clone()
+    };
+    assert_eq!(of("a"), ["a < d", "a < b and r some c"]);
+    assert_eq!((of("b"), of("c")), (vec!["b = c".to_owned()], of("b")));
+    assert_eq!(of("d"), ["d = r some e"]);
+    assert_eq!(of("e"), ["e < c"]);
+    assert!(places
+        .iter()
+        .all(|place| place.first || place.axioms.is_empty()));
+}
+
+/// A page says what it was made of, and when.
+#[test]
+fn made() {
+    let folder = Folder::with_lake();
+    let header = |line: &str| {
+        let (status, page, errors) = folder.shell(line);
+        assert_eq!((status, errors.as_str()), (0, ""), "{line}");
+        let document = xml::parse(&page).expect("XML");
+        let header = document.the("body").the("header");
+        header
+            .elements()
+            .map(|element| element.text())
+            .collect::<Vec<_>>()
+    };
+    let told = header("SOURCE_DATE_EPOCH=86400 girvotal tree lake.state --html");
+    let made =
+        "Made of lake.state (9 kinds, 3 roles, 19 concepts, 8 axioms), 1970-01-02 00:00 UTC.";
+    assert_eq!((told[0].as_str(), told[2].as_str()), ("lake", made));
+    let told = header("girvotal tree - --html < lake.state");
+    assert!(
+        told[2].starts_with("Made of standard input (9 kinds, "),
+        "{told:?}"
+    );
+    assert!(
+        told[2].contains("), 20") && told[2].ends_with(" UTC."),
+        "{told:?}"
+    );
 }

@@ -43,6 +43,8 @@ pub struct Place {
     pub used: bool,
     pub first: bool,
     pub depth: usize,
+    /// What stands under it at its first place.
+    pub axioms: Vec<String>,
     /// The id of the entry that it stands under.
     pub above: Option<String>,
 }
@@ -92,7 +94,7 @@ fn collect(within: &Element, depth: usize, above: Option<&str>, places: &mut Vec
     for element in within.elements() {
         let id = element.attribute("id");
         let head = match (element.name.as_str(), id) {
-            ("summary", None) => continue,
+            ("summary" | "code", None) => continue,
             ("details", Some(_)) => element.the("summary"),
             ("p", Some(_)) => element,
             ("p", None) => element,
@@ -106,6 +108,7 @@ fn collect(within: &Element, depth: usize, above: Option<&str>, places: &mut Vec
             first: id.is_some(),
             depth,
             above: above.map(str::to_owned),
+            axioms: axioms(element),
             ..in_head(head, id.is_none())
         };
         places.push(place);
@@ -117,17 +120,36 @@ fn collect(within: &Element, depth: usize, above: Option<&str>, places: &mut Vec
     }
 }
 
+/// The axioms that stand directly in an element.
+fn axioms(element: &Element) -> Vec<String> {
+    let codes = element.elements().filter(|element| element.name == "code");
+    codes.map(Element::text).collect()
+}
+
 /// The names, the count and the sign of an entry.
 fn in_head(head: &Element, again: bool) -> Place {
     let all = head.all();
     let bdi = || all.iter().filter(|element| element.name == "bdi");
     let names: Vec<String> = bdi().map(|name| name.text()).collect();
-    let below = head.the("small").text();
-    let sign = if again { " ^" } else { "" };
-    assert_eq!(head.text(), format!("{}{sign} {below}", names.join(" = ")));
+    let below = head.elements().find(|element| element.name == "small");
+    let below = below.map(|count| count.text());
+    let sign = if again { " ^, to its first place" } else { "" };
+    let count = below
+        .as_ref()
+        .map_or(String::new(), |count| format!(" {count}"));
+    let told = head.text();
+    let told = told
+        .strip_suffix(&axioms(head).concat())
+        .expect("axioms at the end");
+    assert_eq!(told, format!("{}{sign}{count}", names.join(" = ")));
+    assert_ne!(below.as_deref(), Some("0"), "a count that says nothing");
+    let unsaid = all.iter().filter(|e| e.attribute("aria-hidden").is_some());
+    let unsaid: String = unsaid.map(|element| element.text()).collect();
+    assert_eq!(unsaid, if again { " ^" } else { "" });
     Place {
         id: String::new(),
-        below: below.parse().expect("a count"),
+        below: below.map_or(0, |below| below.parse().expect("a count")),
+        axioms: vec![],
         used: bdi().all(|name| name.attribute("class") != Some("unused")),
         names,
         first: !again,

@@ -3,7 +3,7 @@
 use girvotal::{Concept, Refusal, Row};
 
 use crate::state::State;
-use crate::text::used;
+use crate::text::{statements, used, Line};
 
 /// Kinds of which each lies under the other.
 pub struct Entry<'s> {
@@ -11,6 +11,8 @@ pub struct Entry<'s> {
     pub names: Vec<&'s str>,
     /// The record of the first.
     concept: Concept,
+    /// Their own axioms, as a text has them: those with one of them as a side that is said.
+    pub axioms: Vec<String>,
     /// Whether one of them is in an axiom in force, as a side or in one.
     pub used: bool,
     /// The entries directly above, rising.
@@ -21,7 +23,30 @@ pub struct Entry<'s> {
     pub kinds_below: usize,
 }
 
-impl Entry<'_> {
+impl<'s> Entry<'s> {
+    /// Of one kind, with nothing around it.
+    fn of(kind: &Kind<'s>, used: bool) -> Entry<'s> {
+        Entry {
+            names: vec![kind.name],
+            concept: kind.concept,
+            axioms: vec![],
+            used,
+            above: vec![],
+            below: vec![],
+            kinds_below: 0,
+        }
+    }
+
+    /// Adds a kind's own axioms.
+    fn add_axioms(&mut self, statements: &[Line], kind: Concept) {
+        for Line { axiom, both, text } in statements {
+            let own = axiom.left == kind || *both && axiom.right == kind;
+            if own && !self.axioms.contains(text) {
+                self.axioms.push(text.clone());
+            }
+        }
+    }
+
     /// A word that no other entry has, by the record of its first kind.
     pub fn id(&self) -> String {
         format!("k{}", self.concept.0)
@@ -77,20 +102,19 @@ impl<'s> Tree<'s> {
         kinds.sort_by_key(|kind| (unused(kind), kind.name));
         let mut entries: Vec<Entry<'s>> = Vec::new();
         let mut firsts: Vec<&Kind<'s>> = Vec::new();
+        let statements = statements(state.site.catalogue(), &state.names);
         for kind in &kinds {
             let equal = |first: &&Kind<'s>| kind.under(first) && first.under(kind);
             match firsts.iter().position(equal) {
-                Some(entry) => entries[entry].names.push(kind.name),
+                Some(entry) => {
+                    entries[entry].names.push(kind.name);
+                    entries[entry].add_axioms(&statements, kind.concept);
+                }
                 None => {
                     firsts.push(kind);
-                    entries.push(Entry {
-                        names: vec![kind.name],
-                        concept: kind.concept,
-                        used: !unused(kind),
-                        above: vec![],
-                        below: vec![],
-                        kinds_below: 0,
-                    });
+                    entries.push(Entry::of(kind, !unused(kind)));
+                    let entry = entries.last_mut().expect("one was added");
+                    entry.add_axioms(&statements, kind.concept);
                 }
             }
         }

@@ -7,10 +7,23 @@ use super::arranged::{Entry, Tree};
 const STYLE: &str = include_str!("page.css");
 const SCRIPT: &str = include_str!("page.js");
 
+/// What a page was made of, and when.
+pub struct Made {
+    /// The page's title.
+    pub title: String,
+    /// The file.
+    pub source: String,
+    /// How much it has.
+    pub amounts: String,
+    /// The minute.
+    pub minute: String,
+}
+
 /// The page of a tree. An entry with others below is a `details` at its first place, any other is a
 /// `p`: one element for each level, as browsers limit how deep these nest.
-pub fn page(tree: &Tree<'_>, title: &str) -> String {
-    let (title, amounts) = (escaped(title), amounts(tree));
+pub fn page(tree: &Tree<'_>, made: &Made) -> String {
+    let (title, source, minute) = (escaped(&made.title), escaped(&made.source), &made.minute);
+    let (entries, amounts) = (amounts(tree), &made.amounts);
     let main = main(tree);
     format!(
         "<!DOCTYPE html>
@@ -27,8 +40,9 @@ style-src 'unsafe-inline'; script-src 'unsafe-inline'\" />
 <body>
 <header>
 <h1>{title}</h1>
-<p>{amounts}. The number counts the kinds below, ^ leads to an entry's first place; what is in \
-italics is in no axiom.</p>
+<p>{entries}. The number counts the kinds below, ^ leads to an entry's first place; what is in \
+italics is in no axiom. Under a kind stand its own axioms.</p>
+<p>Made of <bdi>{source}</bdi> ({amounts}), {minute}.</p>
 </header>
 <div role=\"search\" hidden=\"hidden\">
 <label>Filter <input type=\"search\" autocomplete=\"off\" spellcheck=\"false\" /></label>
@@ -54,15 +68,16 @@ fn main(tree: &Tree<'_>) -> String {
         text += &"</details>\n".repeat(open - place.depth);
         open = place.depth;
         let entry = tree.entry(place.entry);
-        let (id, names, count) = (entry.id(), names(entry), count(entry));
+        let (id, names, axioms) = (entry.id(), names(entry), axioms(entry));
+        let count = count(entry);
         text += &if !place.first {
-            format!("<p><a href=\"#{id}\">{names} ^</a> {count}</p>\n")
+            format!("<p><a href=\"#{id}\">{names}{AGAIN}</a>{count}</p>\n")
         } else if entry.below.is_empty() {
-            format!("<p id=\"{id}\">{names} {count}</p>\n")
+            format!("<p id=\"{id}\">{names}{count}{axioms}</p>\n")
         } else {
             open += 1;
-            let summary = format!("<summary>{names} {count}</summary>");
-            format!("<details id=\"{id}\" open=\"open\">{summary}\n")
+            let summary = format!("<summary>{names}{count}</summary>");
+            format!("<details id=\"{id}\" open=\"open\">{summary}{axioms}\n")
         };
     }
     text + &"</details>\n".repeat(open)
@@ -76,11 +91,21 @@ fn names(entry: &Entry<'_>) -> String {
     names.join(" = ")
 }
 
-/// How many kinds lie below an entry.
+/// What stands after the names at any place but the first: a sign, and what it is read out as.
+const AGAIN: &str =
+    "<span aria-hidden=\"true\"> ^</span><span class=\"said\">, to its first place</span>";
+
+/// An entry's own axioms, each a line.
+fn axioms(entry: &Entry<'_>) -> String {
+    let line = |axiom: &String| format!("<code dir=\"auto\">{}</code>", escaped(axiom));
+    entry.axioms.iter().map(line).collect()
+}
+
+/// How many kinds lie below an entry, if any.
 fn count(entry: &Entry<'_>) -> String {
     match entry.kinds_below {
-        0 => "<small class=\"none\">0</small>".into(),
-        count => format!("<small>{count}</small>"),
+        0 => String::new(),
+        count => format!(" <small>{count}</small>"),
     }
 }
 

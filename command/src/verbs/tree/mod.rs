@@ -10,12 +10,15 @@ use std::path::Path;
 use super::format::Format;
 use super::{count, listed, read_state, texts};
 use crate::arguments::Given;
+use crate::clock;
 use crate::failure::Failure;
 use crate::files;
 use crate::json::Json;
+use crate::state::State;
 use crate::{Report, Streams};
 pub use arranged::Tree;
 use arranged::{Entry, Place};
+use html::Made;
 
 /// `tree STATE [--dot | --html] [-o FILE]`
 pub fn tree(given: &Given, streams: &mut Streams<'_>) -> Result<Report, Failure> {
@@ -29,7 +32,10 @@ pub fn tree(given: &Given, streams: &mut Streams<'_>) -> Result<Report, Failure>
     let tree = Tree::of(&state)?;
     let (format, picture) = match (as_dot, as_html) {
         (true, _) => (Format::Graph, dot::graph(&tree)),
-        (_, true) => (Format::Page, html::page(&tree, &title(given.operand(0)))),
+        (_, true) => (
+            Format::Page,
+            html::page(&tree, &made(given.operand(0), &state)),
+        ),
         _ => (Format::Tree, text(&tree)),
     };
     let mut fields = vec![("entries", entries(&tree))];
@@ -48,6 +54,24 @@ fn title(path: &OsStr) -> String {
     match Path::new(path).file_stem() {
         Some(name) if !files::is_stream(path) => name.to_string_lossy().into_owned(),
         _ => "Kinds".into(),
+    }
+}
+
+/// What a page of a state is made of, now.
+fn made(path: &OsStr, state: &State) -> Made {
+    let source = match files::is_stream(path) {
+        true => "standard input".into(),
+        false => Path::new(path)
+            .file_name()
+            .unwrap_or(path)
+            .to_string_lossy()
+            .into_owned(),
+    };
+    Made {
+        title: title(path),
+        source,
+        amounts: texts::Amounts::of(state.site.catalogue()).text(),
+        minute: clock::minute(),
     }
 }
 

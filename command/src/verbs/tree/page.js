@@ -4,7 +4,8 @@
   const told = search.querySelector("output");
   const [unfold, fold] = search.querySelectorAll("button");
   const folds = [...document.querySelectorAll("main details")];
-  const plain = text => text.normalize().toLowerCase();
+  /* without accents and case; an eszett is two letters */
+  const plain = text => text.normalize("NFKD").replace(/\p{M}/gu, "").toLowerCase().toUpperCase();
   const entries = [...document.querySelectorAll("main details, main p")].map(place => {
     const head = place.querySelector("summary") || place;
     const names = [...head.querySelectorAll("bdi")].map(name => plain(name.textContent));
@@ -18,13 +19,22 @@
   let before = null; /* which entries were open before the filter */
 
   const filter = () => {
-    const wanted = plain(box.value.trim());
-    const fits = name => name.includes(wanted);
+    const words = plain(box.value).split(/\s+/).filter(word => word);
+    const wanted = words.length > 0;
+    const fits = name => words.every(word => name.includes(word));
+    const found = new Set(wanted ? entries.filter(entry => entry.names.some(fits)) : []);
     told.value = wanted ? count(fits) + " of " + count(() => true) + " kinds" : "";
     if (wanted) before ??= folds.map(entry => entry.open);
-    entries.forEach(entry => { entry.place.hidden = wanted ? !entry.names.some(fits) : false; });
-    entries.filter(entry => !entry.place.hidden)
-      .forEach(entry => around(entry.place, above => { above.hidden = false; }));
+    entries.forEach(entry => {
+      entry.place.hidden = wanted;
+      entry.place.classList.toggle("fits", found.has(entry));
+    });
+    /* what fits, what it lies under, and what lies below it */
+    found.forEach(entry => {
+      entry.place.hidden = false;
+      around(entry.place, above => { above.hidden = false; });
+      entry.place.querySelectorAll("details, p").forEach(below => { below.hidden = false; });
+    });
     if (before) folds.forEach((entry, i) => { entry.open = wanted ? true : before[i]; });
     if (!wanted) before = null;
   };
