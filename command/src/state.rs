@@ -4,7 +4,7 @@ use std::collections::HashSet;
 
 use girvotal::{Axiom, Catalogue, Changed, Concept, Counts, Record, Refusal, Site};
 
-use crate::text::{is_name, Compiled, Names};
+use crate::text::{is_name, Compiled, Names, Reader};
 
 /// The first bytes of a state file.
 pub const MAGIC: [u8; 8] = *b"GIRVOTAL";
@@ -68,6 +68,11 @@ impl State {
         let numbered = (0..).map(Concept).zip(catalogue.records());
         let atomic = numbered.filter(|(_, record)| *record == Record::Atomic);
         atomic.map(|(concept, _)| concept).collect()
+    }
+
+    /// Reads arguments by its names.
+    pub fn reader(&self) -> Reader {
+        Reader::of(&self.names, self.site.catalogue())
     }
 
     /// The name of a kind.

@@ -15,9 +15,9 @@
 //! makes a new record. `=` is two axioms, and an axiom or role axiom said twice counts once.
 //!
 //! - [`compile()`]: text to catalogue, [`compile_split`]: with right sides split; [`print()`]: catalogue to text; [`owl()`]: catalogue to OWL
-//! - [`expression()`], [`axioms`]: what stands on a command line, read by the same parser
+//! - [`Reader`]: what stands on a command line, read by the same parser, and its records
 //! - [`used`], [`repeated`], [`splittable`]: what a text could do without
-//! - [`candidates`], [`extended`]: the records of an expression, found or added; [`entered`]: kinds
+//! - [`extended`], [`entered`]: records and kinds that are added
 
 mod compile;
 mod draft;
@@ -42,7 +42,6 @@ pub use names::{is_name, quoted, Names};
 pub use nearest::nearest;
 pub use owl::owl;
 pub use print::{print, statements, Line};
-pub use resolve::Extended;
-pub use resolve::{axioms, candidates, entered, expression, extended, in_force, kinds, written};
+pub use resolve::{entered, extended, in_force, written, Extended, Reader};
 pub use split::splittable;
 pub use uses::{used, used_roles};

@@ -38,31 +38,64 @@ fn parsed<T>(
     }
 }
 
-/// The expression that an argument says. One that would be faulty, and is the whole name of a
-/// concept without its quotes, is that name; one that could be either is a fault.
-pub fn expression(
-    source: &str,
-    names: &Names,
-    catalogue: Catalogue<'_>,
-) -> Result<Expression, Vec<Fault>> {
-    let scope = Scope::of(names, catalogue);
-    let result = parsed(source, &scope, |parser| parser.expression_alone());
-    let Some(Meaning::Kind(concept) | Meaning::Let(concept)) =
-        scope.get(source).map(|declared| declared.meaning)
-    else {
-        return result.map_err(|faults| misspelt(source, &scope).unwrap_or(faults));
-    };
-    match result {
-        Ok(other) if other.named() != Some(concept) => Err(vec![Fault {
-            line: 1,
-            column: 1,
-            message: format!(
-                "`{source}` is a name and an expression too: quote it, `{}`, or put it in \
-                 parentheses",
-                quoted(source)
-            ),
-        }]),
-        _ => Ok(Expression::new(vec![Node::Named(concept)])),
+/// Reads arguments by the names of a catalogue, and finds their records in it.
+pub struct Reader {
+    scope: Scope,
+    draft: Draft,
+}
+
+impl Reader {
+    /// By these names and this catalogue.
+    pub fn of(names: &Names, catalogue: Catalogue<'_>) -> Reader {
+        Reader {
+            scope: Scope::of(names, catalogue),
+            draft: Draft::of(catalogue),
+        }
+    }
+
+    /// The expression that an argument says. One that would be faulty, and is the whole name of a
+    /// concept without its quotes, is that name; one that could be either is a fault.
+    pub fn expression(&self, source: &str) -> Result<Expression, Vec<Fault>> {
+        let result = parsed(source, &self.scope, |parser| parser.expression_alone());
+        let Some(Meaning::Kind(concept) | Meaning::Let(concept)) =
+            self.scope.get(source).map(|declared| declared.meaning)
+        else {
+            return result.map_err(|faults| misspelt(source, &self.scope).unwrap_or(faults));
+        };
+        match result {
+            Ok(other) if other.named() != Some(concept) => Err(vec![Fault {
+                line: 1,
+                column: 1,
+                message: format!(
+                    "`{source}` is a name and an expression too: quote it, `{}`, or put it in \
+                     parentheses",
+                    quoted(source)
+                ),
+            }]),
+            _ => Ok(Expression::new(vec![Node::Named(concept)])),
+        }
+    }
+
+    /// The axioms that an argument says, by their sides: one of `A < B`, two of `A = B`. Another
+    /// statement is a fault.
+    pub fn axioms(&self, source: &str) -> Result<Vec<(Expression, Expression)>, Vec<Fault>> {
+        parsed(source, &self.scope, |parser| parser.axioms_alone())
+    }
+
+    /// The kinds that an argument declares by `kind`; none of another argument.
+    pub fn kinds(&self, source: &str) -> Result<Vec<String>, Vec<Fault>> {
+        parsed(source, &self.scope, |parser| parser.kinds_alone())
+    }
+
+    /// The records equal to an expression, rising.
+    pub fn candidates(&self, expression: &Expression) -> Vec<Concept> {
+        let draft = &self.draft;
+        let Some(found) = draft.find(expression) else {
+            return vec![];
+        };
+        let equal = |&concept: &Concept| draft.lowest(concept) == draft.lowest(found);
+        let all = (0..).map(Concept).take(draft.concepts());
+        all.filter(equal).collect()
     }
 }
 
@@ -78,27 +111,6 @@ fn misspelt(source: &str, scope: &Scope) -> Option<Vec<Fault>> {
         column: 1,
         message: not_declared(source, Some(&near)),
     }])
-}
-
-/// The axioms that an argument says, by their sides: one of `A < B`, two of `A = B`. Another
-/// statement is a fault.
-pub fn axioms(
-    source: &str,
-    names: &Names,
-    catalogue: Catalogue<'_>,
-) -> Result<Vec<(Expression, Expression)>, Vec<Fault>> {
-    let scope = Scope::of(names, catalogue);
-    parsed(source, &scope, |parser| parser.axioms_alone())
-}
-
-/// The kinds that an argument declares by `kind`; none of another argument.
-pub fn kinds(
-    source: &str,
-    names: &Names,
-    catalogue: Catalogue<'_>,
-) -> Result<Vec<String>, Vec<Fault>> {
-    let scope = Scope::of(names, catalogue);
-    parsed(source, &scope, |parser| parser.kinds_alone())
 }
 
 /// A catalogue with some kinds more, at its end, by names that are free.
@@ -120,17 +132,6 @@ pub fn entered(
 /// The text of an expression over this catalogue.
 pub fn written(expression: &Expression, names: &Names, catalogue: Catalogue<'_>) -> String {
     expression.written(&Spelling::new(names, catalogue))
-}
-
-/// The records equal to an expression over this catalogue, rising.
-pub fn candidates(expression: &Expression, catalogue: Catalogue<'_>) -> Vec<Concept> {
-    let draft = Draft::of(catalogue);
-    let Some(found) = draft.find(expression) else {
-        return vec![];
-    };
-    let equal = |&concept: &Concept| draft.lowest(concept) == draft.lowest(found);
-    let all = (0..).map(Concept).take(draft.concepts());
-    all.filter(equal).collect()
 }
 
 /// The axiom of this catalogue that has these sides: the one that is said, or else the first whose

@@ -10,13 +10,13 @@ use crate::failure::Failure;
 use crate::files;
 use crate::json::Json;
 use crate::state::State;
-use crate::text::{self, Expression};
+use crate::text::{self, Expression, Reader};
 use crate::{Report, Streams};
 
 /// The record of an expression: of those equal to it, the first that occurs.
-fn record(expression: &Expression, state: &State) -> Result<Concept, Failure> {
+fn record(expression: &Expression, state: &State, reader: &Reader) -> Result<Concept, Failure> {
     let catalogue = state.site.catalogue();
-    for candidate in text::candidates(expression, catalogue) {
+    for candidate in reader.candidates(expression) {
         match state.site.lookup(candidate, candidate) {
             Ok(_) => return Ok(candidate),
             Err(Refusal {
@@ -30,12 +30,10 @@ fn record(expression: &Expression, state: &State) -> Result<Concept, Failure> {
 }
 
 /// The record that an argument names.
-fn resolve(source: &str, state: &State) -> Result<Concept, Failure> {
-    let expression = text::expression(source, &state.names, state.site.catalogue());
-    record(
-        &expression.map_err(|faults| in_argument(source, faults))?,
-        state,
-    )
+fn resolve(source: &str, state: &State, reader: &Reader) -> Result<Concept, Failure> {
+    let expression = reader.expression(source);
+    let expression = expression.map_err(|faults| in_argument(source, faults))?;
+    record(&expression, state, reader)
 }
 
 /// `lookup STATE A B`, `lookup STATE -`
@@ -44,8 +42,9 @@ pub fn lookup(given: &Given, streams: &mut Streams<'_>) -> Result<Report, Failur
         return pairs(given, streams);
     }
     let state = read_state(given.operand(0), streams)?;
-    let first = resolve(given.text(1)?, &state)?;
-    let second = resolve(given.text(2)?, &state)?;
+    let reader = state.reader();
+    let first = resolve(given.text(1)?, &state, &reader)?;
+    let second = resolve(given.text(2)?, &state, &reader)?;
     let yes = state.site.lookup(first, second)?;
     Ok(Report {
         status: if yes { 0 } else { 1 },
@@ -70,12 +69,13 @@ fn pairs(given: &Given, streams: &mut Streams<'_>) -> Result<Report, Failure> {
         ));
     }
     let state = read_state(given.operand(0), streams)?;
+    let reader = state.reader();
     let as_json = given.has("--json");
     let mut status = 0;
     for (line, number) in BufReader::new(&mut *streams.input).split(b'\n').zip(1..) {
         let line =
             line.map_err(|error| files::cannot("read", "standard input".as_ref(), &error))?;
-        let (text, json) = match pair(&line, number, &state) {
+        let (text, json) = match pair(&line, number, &state, &reader) {
             Ok(None) => continue,
             Ok(Some(yes)) => (answer(yes), Json::Object(vec![("answer", yes.into())])),
             Err(failure) => {
@@ -103,7 +103,12 @@ fn pairs(given: &Given, streams: &mut Streams<'_>) -> Result<Report, Failure> {
 
 /// The answer to a line: `A < B`, or A and B parted by a tab, as they stand on a command line. None
 /// to an empty one.
-fn pair(line: &[u8], number: usize, state: &State) -> Result<Option<bool>, Failure> {
+fn pair(
+    line: &[u8],
+    number: usize,
+    state: &State,
+    reader: &Reader,
+) -> Result<Option<bool>, Failure> {
     let wrong = |message: &str| {
         let message = message.to_owned();
         let fault = text::Fault {
@@ -117,11 +122,17 @@ fn pair(line: &[u8], number: usize, state: &State) -> Result<Option<bool>, Failu
     let line = line.trim_end_matches('\r');
     let (first, second) = match line.split_once('\t') {
         _ if line.trim().is_empty() => return Ok(None),
-        Some((first, second)) => (resolve(first, state)?, resolve(second, state)?),
+        Some((first, second)) => (
+            resolve(first, state, reader)?,
+            resolve(second, state, reader)?,
+        ),
         None => {
-            let axioms = text::axioms(line, &state.names, state.site.catalogue());
+            let axioms = reader.axioms(line);
             match &axioms.map_err(|faults| in_argument(line, faults))?[..] {
-                [(first, second)] => (record(first, state)?, record(second, state)?),
+                [(first, second)] => (
+                    record(first, state, reader)?,
+                    record(second, state, reader)?,
+                ),
                 _ => return Err(wrong("`=` is two pairs; write `A < B`")),
             }
         }
@@ -132,7 +143,7 @@ fn pair(line: &[u8], number: usize, state: &State) -> Result<Option<bool>, Failu
 /// `list STATE B [--direct]`
 pub fn list(given: &Given, streams: &mut Streams<'_>) -> Result<Report, Failure> {
     let state = read_state(given.operand(0), streams)?;
-    let second = resolve(given.text(1)?, &state)?;
+    let second = resolve(given.text(1)?, &state, &state.reader())?;
     let mut kinds = state.site.list(second)?;
     if given.has("--direct") {
         let equal = state.site.row(second)?;
@@ -145,7 +156,7 @@ pub fn list(given: &Given, streams: &mut Streams<'_>) -> Result<Report, Failure>
 /// `above STATE A [--direct]`
 pub fn above(given: &Given, streams: &mut Streams<'_>) -> Result<Report, Failure> {
     let state = read_state(given.operand(0), streams)?;
-    let first = resolve(given.text(1)?, &state)?;
+    let first = resolve(given.text(1)?, &state, &state.reader())?;
     let row = state.site.row(first)?;
     let mut kinds = state.kinds();
     kinds.retain(|&kind| row.contains(kind));

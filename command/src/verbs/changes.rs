@@ -95,7 +95,7 @@ fn entered<'a>(
     for &argument in arguments {
         let source = argument.to_str().ok_or_else(|| not_utf8(argument))?;
         let catalogue = state.site.catalogue();
-        let kinds = text::kinds(source, &state.names, catalogue);
+        let kinds = state.reader().kinds(source);
         let kinds = kinds.map_err(|faults| in_argument(source, faults))?;
         match kinds.as_slice() {
             [] => others.push(argument),
@@ -112,10 +112,11 @@ fn entered<'a>(
 
 /// The axioms of some arguments.
 fn sides(arguments: &[&OsStr], state: &State) -> Result<Vec<Side>, Failure> {
+    let reader = state.reader();
     let mut all = Vec::new();
     for argument in arguments {
         let source = argument.to_str().ok_or_else(|| not_utf8(argument))?;
-        let axioms = text::axioms(source, &state.names, state.site.catalogue());
+        let axioms = reader.axioms(source);
         all.extend(axioms.map_err(|faults| in_argument(source, faults))?);
     }
     Ok(all)

@@ -14,8 +14,8 @@ pub fn query(given: &Given, streams: &mut Streams<'_>) -> Result<Report, Failure
     let state = read_state(given.operand(0), streams)?;
     let source = given.text(1)?;
     let catalogue = state.site.catalogue();
-    let wish = text::expression(source, &state.names, catalogue)
-        .map_err(|faults| in_argument(source, faults))?;
+    let wish = state.reader().expression(source);
+    let wish = wish.map_err(|faults| in_argument(source, faults))?;
     let extended = text::extended(catalogue, &state.names, &[(wish.clone(), wish)])
         .map_err(|failure| failed(String::new(), failure))?;
     let catalogue = Catalogue::new(&extended.catalogue)?;

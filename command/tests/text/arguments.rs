@@ -3,8 +3,7 @@
 use crate::{axioms as numbers, compiled, records};
 use girvotal::{Axiom, Catalogue, Concept, Question};
 use girvotal_command::text::{
-    axioms, candidates, expression, extended, print, written, Compiled, Expression, Extended,
-    Failure, Fault,
+    extended, print, written, Compiled, Expression, Extended, Failure, Fault, Reader,
 };
 
 /// Two doubles of `has some tap` (5 and 7), of which the second is in an axiom; one conjunction
@@ -26,12 +25,12 @@ fn told(faults: Vec<Fault>) -> Vec<String> {
 }
 
 fn parsed(source: &str, compiled: &Compiled) -> Expression {
-    let parsed = expression(source, &compiled.names, read(compiled));
+    let parsed = Reader::of(&compiled.names, read(compiled)).expression(source);
     parsed.unwrap_or_else(|faults| panic!("{source}: {faults:?}"))
 }
 
 fn sides(source: &str, compiled: &Compiled) -> Vec<(Expression, Expression)> {
-    let parsed = axioms(source, &compiled.names, read(compiled));
+    let parsed = Reader::of(&compiled.names, read(compiled)).axioms(source);
     parsed.unwrap_or_else(|faults| panic!("{source}: {faults:?}"))
 }
 
@@ -76,7 +75,7 @@ fn expressions_and_their_records() {
         let expression = parsed(source, &doubles);
         let catalogue = read(&doubles);
         assert_eq!(written(&expression, &doubles.names, catalogue), text);
-        let found = candidates(&expression, catalogue);
+        let found = Reader::of(&doubles.names, catalogue).candidates(&expression);
         let found: Vec<u16> = found.into_iter().map(|concept| concept.0).collect();
         assert_eq!(found, expected, "{source}");
     }
@@ -115,7 +114,9 @@ fn faulty_expressions() {
             "1:10: error: `tapp` is not declared; did you mean `tap`?",
         ),
     ] {
-        let faults = expression(source, &doubles.names, read(&doubles)).unwrap_err();
+        let faults = Reader::of(&doubles.names, read(&doubles))
+            .expression(source)
+            .unwrap_err();
         assert_eq!(told(faults), [expected], "{source}");
     }
 }
@@ -165,7 +166,7 @@ fn axioms_by_their_sides() {
             "1:7: error: `tapp` is not declared; did you mean `tap`?",
         ),
     ] {
-        let faults = axioms(source, &doubles.names, read(&doubles)).unwrap_err();
+        let faults = Reader::of(&doubles.names, read(&doubles)).axioms(source).unwrap_err();
         assert_eq!(told(faults), [expected], "{source}");
     }
 }
@@ -195,7 +196,7 @@ fn records_that_are_there() {
         // A named composite is itself.
         ("pitch < damp", vec![(0, 6)]),
     ] {
-        let Ok(sides) = axioms(source, &doubles.names, read(&doubles)) else {
+        let Ok(sides) = Reader::of(&doubles.names, read(&doubles)).axioms(source) else {
             assert!(expected.is_empty(), "{source}");
             continue;
         };
@@ -269,11 +270,16 @@ fn deep_arguments() {
         "a and ".repeat(100_000) + "a",
     ] {
         let expression = parsed(&source, &small);
-        assert_eq!(candidates(&expression, read(&small)), []);
+        assert_eq!(
+            Reader::of(&small.names, read(&small)).candidates(&expression),
+            []
+        );
         assert_eq!(written(&expression, &small.names, read(&small)), source);
     }
     let nested = "(".repeat(100_000);
-    let faults = expression(&nested, &small.names, read(&small)).unwrap_err();
+    let faults = Reader::of(&small.names, read(&small))
+        .expression(&nested)
+        .unwrap_err();
     assert_eq!(
         told(faults),
         ["1:513: error: parentheses nest more than 512 deep"]

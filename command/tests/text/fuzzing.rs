@@ -5,7 +5,7 @@ use crate::compiled;
 use crate::mutations::{texts, Tally, PIECES};
 use crate::support::say;
 use girvotal::Catalogue;
-use girvotal_command::text::{axioms, expression, written};
+use girvotal_command::text::{written, Reader};
 use reference::random::Random;
 
 /// One of some.
@@ -173,16 +173,17 @@ fn arguments() {
                 random_expression(random, 4)
             ),
         };
-        let faults = match expression(&source, &declared.names, catalogue) {
+        let faults = match Reader::of(&declared.names, catalogue).expression(&source) {
             Ok(expression) => {
                 let written = written(&expression, &declared.names, catalogue);
-                let again = self::expression(&written, &declared.names, catalogue);
+                let again = Reader::of(&declared.names, catalogue).expression(&written);
                 assert_eq!(again, Ok(expression), "{source:?}: {written}");
                 vec![]
             }
             Err(faults) => faults,
         };
-        let more = axioms(&source, &declared.names, catalogue)
+        let more = Reader::of(&declared.names, catalogue)
+            .axioms(&source)
             .err()
             .unwrap_or_default();
         match faults.is_empty() || more.is_empty() {
