@@ -60,7 +60,8 @@ impl Reader {
         let Some(Meaning::Kind(concept) | Meaning::Let(concept)) =
             self.scope.get(source).map(|declared| declared.meaning)
         else {
-            return result.map_err(|faults| misspelt(source, &self.scope).unwrap_or(faults));
+            let misspelt = || self.misspelt(source, 1).map(|fault| vec![fault]);
+            return result.map_err(|faults| misspelt().unwrap_or(faults));
         };
         match result {
             Ok(other) if other.named() != Some(concept) => Err(vec![Fault {
@@ -79,7 +80,45 @@ impl Reader {
     /// The axioms that an argument says, by their sides: one of `A < B`, two of `A = B`. Another
     /// statement is a fault.
     pub fn axioms(&self, source: &str) -> Result<Vec<(Expression, Expression)>, Vec<Fault>> {
-        parsed(source, &self.scope, |parser| parser.axioms_alone())
+        let axioms = parsed(source, &self.scope, |parser| parser.axioms_alone());
+        axioms.map_err(|faults| self.unquoted(source).unwrap_or(faults))
+    }
+
+    /// What is wrong with the sides of an axiom that are, or are near to, names that need quotes;
+    /// none where there is no such side.
+    fn unquoted(&self, source: &str) -> Option<Vec<Fault>> {
+        let (left, right) = source.split_once(['<', '='])?;
+        let mut faults = vec![];
+        for (side, begin) in [(left, 1), (right, left.chars().count() + 2)] {
+            let name = side.trim();
+            let column = begin + side.chars().take_while(|c| c.is_whitespace()).count();
+            if parsed(name, &self.scope, |parser| parser.expression_alone()).is_ok() {
+                continue;
+            }
+            match self.scope.get(name) {
+                Some(_) if is_word(name) => return None,
+                Some(_) => faults.push(Fault {
+                    line: 1,
+                    column,
+                    message: format!("in an axiom this name is quoted: `{}`", quoted(name)),
+                }),
+                None => faults.push(self.misspelt(name, column)?),
+            }
+        }
+        (!faults.is_empty()).then_some(faults)
+    }
+
+    /// What is said at a column of what is near to a name with spaces, or another that is quoted.
+    fn misspelt(&self, source: &str, column: usize) -> Option<Fault> {
+        let concepts = self.scope.names();
+        let concepts = concepts.filter(|(_, meaning)| !matches!(meaning, Meaning::Role(_)));
+        let quotable = concepts.map(|(name, _)| name).filter(|name| !is_word(name));
+        let near = quoted(nearest(source, quotable)?);
+        Some(Fault {
+            line: 1,
+            column,
+            message: not_declared(source, Some(&near)),
+        })
     }
 
     /// The kinds that an argument declares by `kind`; none of another argument.
@@ -97,20 +136,6 @@ impl Reader {
         let all = (0..).map(Concept).take(draft.concepts());
         all.filter(equal).collect()
     }
-}
-
-/// What is said of an argument that is near to a name with spaces, or another that is quoted.
-fn misspelt(source: &str, scope: &Scope) -> Option<Vec<Fault>> {
-    let concepts = scope
-        .names()
-        .filter(|(_, meaning)| !matches!(meaning, Meaning::Role(_)));
-    let quotable = concepts.map(|(name, _)| name).filter(|name| !is_word(name));
-    let near = quoted(nearest(source, quotable)?);
-    Some(vec![Fault {
-        line: 1,
-        column: 1,
-        message: not_declared(source, Some(&near)),
-    }])
 }
 
 /// A catalogue with some kinds more, at its end, by names that are free.

@@ -166,6 +166,19 @@ fn misspelt_names() {
             check(&folder, &[(&line, 3, "", &error)]);
         }
     }
+    // The sides of an axiom, which must be quoted.
+    let near =
+        "`pitch < Seeplatz Sud`:1:9: error: `\"Seeplatz Sud\"` is not declared; did you mean \
+                `\"Seeplatz Süd\"`?\n";
+    let bare = "`Seeplatz Süd < pitch`:1:1: error: in an axiom this name is quoted: `\"Seeplatz \
+                Süd\"`\n";
+    check(
+        &folder,
+        &[
+            ("add lake.state 'pitch < Seeplatz Sud'", 3, "", near),
+            ("add lake.state 'Seeplatz Süd < pitch'", 3, "", bare),
+        ],
+    );
     // Of what is near to no name, the parts are told.
     let (_, _, errors) = folder.run("list lake.state 'pich and tapp'");
     assert!(
