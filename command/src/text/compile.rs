@@ -173,7 +173,8 @@ impl Compiler {
     ) {
         if let Some(before) = self.scope.declare(&name, Declared { meaning, line }) {
             let (name, before) = (quoted(&name), before.line);
-            let message = format!("`{name}` is declared already, on line {before}");
+            let message =
+                format!("`{name}` is declared already, on line {before}; take another name");
             self.faults.push(line, column, Problem::Said(message));
         }
     }

@@ -135,6 +135,6 @@ pub(super) fn not_declared(name: &str, meant: Option<&str>) -> String {
     let name = quoted(name);
     match meant {
         Some(meant) => format!("`{name}` is not declared; did you mean `{meant}`?"),
-        None => format!("`{name}` is not declared"),
+        None => format!("`{name}` is not declared; declare it first"),
     }
 }

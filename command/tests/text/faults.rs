@@ -61,7 +61,10 @@ fn unseen_characters() {
     let mark = "1: unexpected character `\u{feff}` (U+FEFF)";
     check("\u{feff}tap < water", &[mark]);
     let accent = "8: unexpected character `\u{301}` (U+0301)";
-    check("tap < é\u{301}", &["7: `é` is not declared", accent]);
+    check(
+        "tap < é\u{301}",
+        &["7: `é` is not declared; declare it first", accent],
+    );
 }
 
 /// Every error of a text, in order; nothing follows from a faulty declaration.
@@ -85,7 +88,7 @@ has < offers
     let told = [
         "1:1: error: `kinds` is not declared; did you mean `kind`?",
         "2:13: error: unexpected character `$`",
-        "3:6: error: `pitch` is declared already, on line 1",
+        "3:6: error: `pitch` is declared already, on line 1; take another name",
         "4:10: error: expected `,` or the end of the line, found `some`",
         "5:20: error: `tapp` is not declared; did you mean `tap`?",
         "6:11: error: `let` names a composite, and `lake` is a kind",
@@ -109,7 +112,7 @@ fn offered_names() {
     let many: String = (0..2_000)
         .map(|number| format!("kind k{number}\n"))
         .collect();
-    let told = ["2001:6: error: `k2000` is not declared"];
+    let told = ["2001:6: error: `k2000` is not declared; declare it first"];
     assert_eq!(faults((many + "k0 < k2000\n").as_bytes()), told);
 }
 

@@ -141,7 +141,7 @@ fn streams() {
     let line = "girvotal classify - -o - < lake.gv | girvotal lookup - corner-pitch powered-pitch";
     assert_eq!(folder.shell(line), (0, "yes\n".into(), String::new()));
     let line = "echo 'kind a\nb < a' | girvotal check -";
-    let error = "-:2:1: error: `b` is not declared\n".to_string();
+    let error = "-:2:1: error: `b` is not declared; declare it first\n".to_string();
     assert_eq!(folder.shell(line), (3, String::new(), error));
     // Pipes by links to them.
     let (status, output, errors) = folder.shell("girvotal tree lake.state -o /dev/stdout | cat");
