@@ -27,6 +27,7 @@ _girvotal() {
                 withdraw) operands=(file none) options=(--touched --dry-run --wait --json --help) ;;
                 write) operands=(file) options=(-o --force --wait --json --help) ;;
                 explain) operands=(none) options=(--json --help) ;;
+                help) operands=('check compile text classify update lookup list above query diff tree change add withdraw write explain') ;;
                 *) return ;;
             esac
         elif [[ -n $value ]]; then
@@ -58,7 +59,7 @@ _girvotal() {
         fi
     done
     if [[ -z $verb ]]; then
-        wanted='check compile text classify update lookup list above query diff tree change add withdraw write explain --help --version --json'
+        wanted='check compile text classify update lookup list above query diff tree change add withdraw write explain help --help --version --json'
     elif [[ -n $value ]]; then
         wanted=$value
     elif [[ -z $ended && ($current == -* || $place -ge ${#operands[@]}) ]]; then

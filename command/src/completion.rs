@@ -8,10 +8,12 @@ const FILES: [&str; 4] = ["TEXT", "CATALOGUE", "STATE", "FILE"];
 
 /// The script for these verbs, which bash-completion loads or a shell sources.
 pub fn completion(verbs: &[Verb]) -> String {
-    let names = verbs.iter().map(|verb| verb.name);
-    let first: Vec<&str> = names.chain(OPTIONS.iter().map(|flag| flag.name)).collect();
+    let names: Vec<&str> = verbs.iter().map(|verb| verb.name).collect();
+    let options = OPTIONS.map(|flag| flag.name);
+    let first = [&names[..], &["help"], &options].concat();
     SCRIPT
         .replace("@FIRST@", &first.join(" "))
+        .replace("@NAMES@", &names.join(" "))
         .replace(
             "@VERBS@\n",
             &verbs.iter().map(verb_case).collect::<String>(),
@@ -37,6 +39,7 @@ _girvotal() {
             # The operands in order, each a file or none that is known, and the options.
             case $verb in
 @VERBS@
+                help) operands=('@NAMES@') ;;
                 *) return ;;
             esac
         elif [[ -n $value ]]; then

@@ -80,6 +80,7 @@ pub fn cannot(what: &str, path: &OsStr, error: &io::Error) -> Failure {
         ErrorKind::PermissionDenied => "let someone do it who may",
         ErrorKind::StorageFull | ErrorKind::QuotaExceeded => "make room",
         ErrorKind::IsADirectory => "name a file in it",
+        ErrorKind::BrokenPipe => "send it to what takes it, a file or /dev/null",
         _ => "try it elsewhere",
     };
     let path = path.to_string_lossy();

@@ -11,7 +11,7 @@ struct Closed;
 
 impl Closed {
     fn error() -> io::Error {
-        io::Error::other("it is closed")
+        io::Error::new(io::ErrorKind::BrokenPipe, "it is closed")
     }
 }
 

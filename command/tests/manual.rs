@@ -164,7 +164,9 @@ fn check_completion(verbs: &[Verb]) {
     let completed = |words: &[&str]| completed(&script, words);
     let names: Vec<&str> = verbs.iter().map(|verb| verb.name).collect();
     let globals = OPTIONS.map(|flag| flag.name);
-    assert_eq!(completed(&[""]), owned(&[&names, &globals[..]].concat()));
+    let first = [&names[..], &["help"], &globals].concat();
+    assert_eq!(completed(&[""]), owned(&first));
+    assert_eq!(completed(&["help", ""]), owned(&names));
     assert_eq!(completed(&["--json", ""]), completed(&[""]));
     assert_eq!(completed(&["--"]), owned(&globals));
     for verb in verbs {

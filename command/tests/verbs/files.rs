@@ -301,7 +301,8 @@ fn closed_output() {
         "--help",
         "list lake.state tap",
     ] {
-        let error = "girvotal: cannot write to standard output: it is closed; try it elsewhere\n";
+        let error = "girvotal: cannot write to standard output: it is closed; send it to what \
+                     takes it, a file or /dev/null\n";
         let ended = folder.shell(&format!("girvotal {line} >&-"));
         assert_eq!(ended, (4, String::new(), error.to_string()), "{line}");
         let (status, _, errors) = folder.shell(&format!("girvotal {line} > /dev/null <&-"));
