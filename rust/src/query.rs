@@ -2,7 +2,7 @@
 
 use alloc::vec::Vec;
 
-use crate::{Builder, Catalogue, Concept, Record, Refusal, Site};
+use crate::{Builder, Catalogue, Concept, Record, Refusal, Row, Site};
 
 /// The kinds about a wish, each list rising.
 #[derive(Clone, Debug, PartialEq, Eq)]
@@ -24,37 +24,38 @@ pub fn query(catalogue: &Catalogue<'_>, wish: Concept) -> Result<Met, Refusal> {
     builder.axiom(kind, wish);
     builder.axiom(wish, kind);
     let site = Site::classify(builder.build()?)?;
-    let records = catalogue.records().enumerate();
-    let kinds = records.filter(|(_, record)| *record == Record::Atomic);
-    let kinds = kinds.map(|(number, _)| Concept(u16::try_from(number).unwrap_or(u16::MAX)));
-    let (mut met, mut above) = (Vec::new(), Vec::new());
-    for other in kinds {
-        if site.lookup(other, kind)? {
-            met.push(other);
-        }
-        if site.lookup(kind, other)? {
-            above.push(other);
-        }
+    let records = (0..).map(Concept).zip(catalogue.records());
+    let mut kinds = Vec::new();
+    for (other, _) in records.filter(|(_, record)| *record == Record::Atomic) {
+        kinds.push((other, site.row(other)?));
     }
-    let (equal, above) = above.into_iter().partition(|other| met.contains(other));
+    let under = site.row(kind)?;
+    let numbers = |some: Vec<Kind<'_>>| some.into_iter().map(|(other, _)| other).collect();
+    let (met, others): (Vec<_>, Vec<_>) =
+        kinds.into_iter().partition(|(_, row)| row.contains(kind));
+    let equal = met.iter().filter(|(other, _)| under.contains(*other));
+    let above = others
+        .into_iter()
+        .filter(|(other, _)| under.contains(*other));
     Ok(Met {
-        kinds: met,
-        equal,
-        above: lowest(&site, above)?,
+        equal: equal.map(|(other, _)| *other).collect(),
+        above: lowest(above.collect()),
+        kinds: numbers(met),
     })
 }
 
+/// A kind, and the row of those above it.
+type Kind<'s> = (Concept, Row<'s>);
+
 /// Of some kinds those that lie above no other of them, but for equal ones.
-fn lowest(site: &Site, kinds: Vec<Concept>) -> Result<Vec<Concept>, Refusal> {
-    let mut lowest = Vec::new();
-    for &one in &kinds {
-        let row = site.row(one)?;
-        let mut others = kinds.iter().filter(|&&other| !row.contains(other));
-        if !others.try_fold(false, |any, &other| Ok(any || site.lookup(other, one)?))? {
-            lowest.push(one);
-        }
-    }
-    Ok(lowest)
+fn lowest(kinds: Vec<Kind<'_>>) -> Vec<Concept> {
+    let above = |(one, row): &Kind<'_>, (other, others): &Kind<'_>| {
+        others.contains(*one) && !row.contains(*other)
+    };
+    let lowest = kinds
+        .iter()
+        .filter(|one| !kinds.iter().any(|other| above(one, other)));
+    lowest.map(|(one, _)| *one).collect()
 }
 
 impl Site {

@@ -2,7 +2,7 @@
 
 use std::io::{BufRead, BufReader};
 
-use girvotal::{Concept, Question, Refusal};
+use girvotal::{Concept, Question, Refusal, Row};
 
 use super::{failed, in_argument, lines, listed, nowhere, read_state};
 use crate::arguments::Given;
@@ -148,7 +148,8 @@ pub fn list(given: &Given, streams: &mut Streams<'_>) -> Result<Report, Failure>
     if given.has("--direct") {
         let equal = state.site.row(second)?;
         kinds.retain(|&kind| !equal.contains(kind));
-        kinds = extreme(&state, &kinds, |lower, upper| (lower, upper))?;
+        let rows = rows(&state, &kinds)?;
+        kinds = extreme(&rows, |kind, other| (kind, other));
     }
     Ok(kinds_told(&state, &kinds))
 }
@@ -161,37 +162,34 @@ pub fn above(given: &Given, streams: &mut Streams<'_>) -> Result<Report, Failure
     let mut kinds = state.kinds();
     kinds.retain(|&kind| row.contains(kind));
     if given.has("--direct") {
-        let mut strictly = Vec::new();
-        for kind in kinds {
-            if !state.site.lookup(kind, first)? {
-                strictly.push(kind);
-            }
-        }
-        kinds = extreme(&state, &strictly, |upper, lower| (lower, upper))?;
+        let mut rows = rows(&state, &kinds)?;
+        rows.retain(|(_, row)| !row.contains(first));
+        kinds = extreme(&rows, |kind, other| (other, kind));
     }
     Ok(kinds_told(&state, &kinds))
 }
 
+/// A kind, and the row of the concepts above it.
+type Kind<'s> = (Concept, Row<'s>);
+
+/// Some kinds with their rows.
+fn rows<'s>(state: &'s State, kinds: &[Concept]) -> Result<Vec<Kind<'s>>, Failure> {
+    let row = |&kind: &Concept| Ok((kind, state.site.row(kind)?));
+    kinds.iter().map(row).collect()
+}
+
 /// Of some kinds those that have no other of them beyond, but for equal ones: `ordered` says which
 /// of a kind and another is the lower one if that is beyond.
-fn extreme(
-    state: &State,
-    kinds: &[Concept],
-    ordered: fn(Concept, Concept) -> (Concept, Concept),
-) -> Result<Vec<Concept>, Failure> {
-    let mut direct = Vec::new();
-    for &kind in kinds {
-        let mut beyond = false;
-        for &other in kinds {
-            let (lower, upper) = ordered(kind, other);
-            let site = &state.site;
-            beyond |= site.lookup(lower, upper)? && !site.lookup(upper, lower)?;
-        }
-        if !beyond {
-            direct.push(kind);
-        }
-    }
-    Ok(direct)
+fn extreme<'k>(
+    kinds: &'k [Kind<'k>],
+    ordered: fn(&'k Kind<'k>, &'k Kind<'k>) -> (&'k Kind<'k>, &'k Kind<'k>),
+) -> Vec<Concept> {
+    let beyond = |kind, other| {
+        let ((lower, above), (upper, beyond)) = ordered(kind, other);
+        above.contains(*upper) && !beyond.contains(*lower)
+    };
+    let last = |kind: &&'k Kind<'k>| !kinds.iter().any(|other| beyond(*kind, other));
+    kinds.iter().filter(last).map(|(kind, _)| *kind).collect()
 }
 
 /// The names of some kinds, one a line.

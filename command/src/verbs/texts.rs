@@ -87,8 +87,11 @@ pub fn made(
         )));
     }
     let target = Target::of(path, given.wait()?)?;
-    let old = target.old()?.unwrap_or_default();
-    if let Some(found) = format.replaces(&old).filter(|_| !given.has("--force")) {
+    let old = match given.has("--force") {
+        true => None,
+        false => target.old()?,
+    };
+    if let Some(found) = old.and_then(|old| format.replaces(&old)) {
         return Err(Failure::Usage(format!(
             "{} is {}, and would be replaced by {}; name another file, or add `--force`",
             shown(path),
