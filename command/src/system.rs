@@ -3,7 +3,7 @@
 
 use std::sync::atomic::{AtomicBool, AtomicUsize, Ordering};
 
-extern "C" {
+unsafe extern "C" {
     fn signal(number: i32, action: usize) -> usize;
     fn raise(number: i32) -> i32;
     #[cfg(target_os = "linux")]
@@ -72,7 +72,7 @@ static CLOSED: AtomicBool = AtomicBool::new(false);
 /// Runs before Rust's own start, which opens a closed standard output to the null device.
 #[cfg(target_os = "linux")]
 #[used]
-#[link_section = ".init_array"]
+#[unsafe(link_section = ".init_array")]
 static BEGIN: extern "C" fn() = {
     extern "C" fn begin() {
         const GET_FLAGS: i32 = 1;

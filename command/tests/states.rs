@@ -234,10 +234,10 @@ fn sealed() {
             if !checksum {
                 seal(changed);
             }
-            if named.contains(&at) {
-                if let Ok(state) = State::read(changed) {
-                    assert_eq!(answered(&state), before, "{what}");
-                }
+            if named.contains(&at)
+                && let Ok(state) = State::read(changed)
+            {
+                assert_eq!(answered(&state), before, "{what}");
             }
             match named.contains(&at) || held.contains(&at) || rows.contains(&at) {
                 true => tally.check(changed, &what),
