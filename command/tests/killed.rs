@@ -71,14 +71,56 @@ fn write(folder: &Folder, writer: usize, kills: usize, killed: &AtomicUsize) -> 
     tally
 }
 
-#[test]
-fn every_accepted_change_is_there() {
+/// How many runs to kill.
+fn kills() -> usize {
     let kills = std::env::var("GIRVOTAL_TEST_KILLS");
-    let kills = kills.map_or(60, |kills| kills.parse().expect("a number"));
-    let folder = &Folder::new();
+    kills.map_or(60, |kills| kills.parse().expect("a number"))
+}
+
+/// A folder with a state of kinds alone.
+fn with_kinds() -> Folder {
+    let folder = Folder::new();
     let text: String = (0..=KINDS).map(|i| format!("kind k{i}\n")).collect();
     folder.write("s.gv", text);
     folder.done("classify s.gv -o s");
+    folder
+}
+
+/// Interrupts and terminations leave the state, old or new, and nothing beside it.
+#[test]
+fn interrupts_leave_nothing() {
+    let folder = with_kinds();
+    let random = &mut Random::new(7);
+    let names = || -> Vec<_> {
+        let entries = std::fs::read_dir(&folder.path).expect("the folder");
+        let mut names: Vec<_> = entries
+            .map(|entry| entry.expect("one").file_name())
+            .collect();
+        names.sort();
+        names
+    };
+    let (before, mut killed) = (names(), 0);
+    for number in 0..KINDS * KINDS {
+        let line = format!("add s 'k{} < k{}'", number / KINDS, number % KINDS);
+        let mut command = folder.command(&words(&line));
+        command.stdout(Stdio::null()).stderr(Stdio::null());
+        let mut child = command.spawn().expect("a run");
+        thread::sleep(Duration::from_micros(50 * random.below(100) as u64));
+        end(&mut child, 1 + random.below(2));
+        killed += usize::from(child.wait().expect("an end").code().is_none());
+        assert_eq!(names(), before, "{line}");
+        State::read(&folder.read("s")).expect("a state");
+        if killed >= kills() {
+            return;
+        }
+    }
+    panic!("{killed} were interrupted");
+}
+
+#[test]
+fn every_accepted_change_is_there() {
+    let kills = kills();
+    let folder = &with_kinds();
     let killed = &AtomicUsize::new(0);
     let tallies: Vec<Tally> = thread::scope(|scope| {
         let start = |writer| scope.spawn(move || write(folder, writer, kills, killed));

@@ -10,7 +10,7 @@ use super::faults::{Failure, Fault, Faults, Problem};
 use super::names::{quoted, Names};
 use super::parser::Parser;
 use super::scope::{Declared, Meaning, Scope};
-use super::split::{split_draft, Split};
+use super::split::{built, split_draft};
 use super::statement::{Declaration, Statement};
 
 /// A text's catalogue and names.
@@ -28,8 +28,7 @@ pub struct Compiled {
 /// are passed over. Of a text that is not UTF-8 the first such byte alone is told.
 pub fn compile(text: &[u8]) -> Result<Compiled, Failure> {
     let (draft, names) = Compiler::read(text)?.finish()?;
-    let catalogue = draft.build();
-    let catalogue = catalogue.map_err(|failure| failure.with(&fewer(&draft, &names)))?;
+    let catalogue = built(&draft, &names)?;
     Ok(Compiled { catalogue, names })
 }
 
@@ -49,15 +48,6 @@ pub fn split(Compiled { catalogue, names }: &Compiled) -> Result<Compiled, Failu
 /// The lines of a text that repeat a role axiom, each with the line that says it first.
 pub fn repeated(text: &[u8]) -> Result<Vec<(usize, usize)>, Failure> {
     Ok(Compiler::read(text)?.repeated)
-}
-
-/// How many records fewer a draft has with right sides split; empty if none.
-fn fewer(draft: &Draft, names: &Names) -> String {
-    let left = Split::of(draft, names).map_or(draft.concepts(), |split| split.concepts());
-    match draft.concepts() - left {
-        0 => String::new(),
-        fewer => format!(", {fewer} fewer with right sides split: `girvotal text TEXT --split`"),
-    }
 }
 
 /// The text's characters, without a byte order mark.

@@ -11,6 +11,7 @@ use super::names::{is_word, quoted, Names, Spelling};
 use super::nearest::nearest;
 use super::parser::{Ended, Parser};
 use super::scope::{Meaning, Scope};
+use super::split::built;
 
 /// Reads a line by the names of a catalogue.
 fn parsed<T>(
@@ -150,7 +151,7 @@ pub fn entered(
         draft.push(Record::Atomic);
         names.concepts.push(Some(kind.clone()));
     }
-    let catalogue = draft.build()?;
+    let catalogue = built(&draft, &names)?;
     Ok(Compiled { catalogue, names })
 }
 
@@ -199,8 +200,13 @@ pub fn extended(
     }
     let mut names = names.clone();
     names.concepts.resize(draft.concepts(), None);
+    let built = draft.build().or_else(|_| {
+        // With the axioms, so that what they need counts.
+        draft.axioms.extend(&numbered);
+        built(&draft, &names)
+    });
     Ok(Extended {
-        catalogue: draft.build()?,
+        catalogue: built?,
         names,
         axioms: numbered,
     })

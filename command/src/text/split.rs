@@ -122,6 +122,20 @@ fn conjuncts(records: &[Record], record: usize, open: impl Fn(usize) -> bool) ->
     found.into_iter().collect()
 }
 
+/// The catalogue of a draft, or which limit it passes, and how many records fewer it has with right
+/// sides split.
+pub(super) fn built(draft: &Draft, names: &Names) -> Result<Vec<u8>, Failure> {
+    let left = || Split::of(draft, names).map_or(draft.concepts(), |split| split.concepts());
+    draft
+        .build()
+        .map_err(|failure| match draft.concepts() - left() {
+            0 => failure,
+            fewer => failure.with(&format!(
+                ", {fewer} fewer with right sides split: `girvotal text FILE --split`"
+            )),
+        })
+}
+
 /// A draft with its right sides split.
 pub(super) fn split_draft(draft: &Draft, names: &Names) -> Result<Compiled, Failure> {
     match Split::of(draft, names) {

@@ -100,7 +100,7 @@ impl Lint {
         if fewer > 0 {
             let concepts = count(fewer, "concept");
             self.lines.push(format!(
-                "{concepts} fewer with right sides split: `girvotal text TEXT --split`"
+                "{concepts} fewer with right sides split: `girvotal text FILE --split`"
             ));
         }
         let axioms: Vec<&str> = axioms.iter().map(String::as_str).collect();

@@ -36,7 +36,7 @@ fn concepts() {
     assert_eq!(refused(&(kinds(511) + "k0 < k1 and k2\n")), None);
     refused_for("513 concepts (513 kinds, 0 composites)", &kinds(513));
     refused_for(
-        "513 concepts (512 kinds, 1 composite), 1 fewer with right sides split: `girvotal text TEXT \
+        "513 concepts (512 kinds, 1 composite), 1 fewer with right sides split: `girvotal text FILE \
          --split`",
         &(kinds(512) + "k0 < k1 and k2\n"),
     );
@@ -107,7 +107,7 @@ fn depth() {
     assert_eq!(refused(&wide(511)), None);
     refused_for(
         "513 concepts (1 kind, 512 composites), 512 fewer with right sides split: `girvotal text \
-         TEXT --split`",
+         FILE --split`",
         &wide(512),
     );
     refused_for("more than 65535 concepts", &wide(100_000));
@@ -145,7 +145,7 @@ fn over_by_right_sides() {
     let axiom = |i: usize| format!("k{i} < k{} and r some k{}\n", i + 1, i + 2);
     let text = kinds + &(0..150).map(axiom).collect::<String>();
     let detail = "600 concepts (300 kinds, 300 composites), 150 fewer with right sides split: \
-                  `girvotal text TEXT --split`";
+                  `girvotal text FILE --split`";
     refused_for(detail, &text);
     let Compiled { catalogue, names } = compile_split(text.as_bytes()).expect("within the limits");
     let catalogue = Catalogue::new(&catalogue).expect("accepted");

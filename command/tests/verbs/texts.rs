@@ -124,7 +124,7 @@ fn lint() {
                 equal kinds: b = c = d\nrepeated role axiom: line 5 says what line 3 says\n\
                 repeated role axiom: line 6 says what line 4 says\n\
                 could be split: a < b and r some c\n\
-                1 concept fewer with right sides split: `girvotal text TEXT --split`\n";
+                1 concept fewer with right sides split: `girvotal text FILE --split`\n";
     let json = "{\"kinds\": 6, \"roles\": 4, \"concepts\": 10, \"axioms\": 5, \"unused_kinds\": \
                 [\"e\", \"not used\"], \"unused_roles\": [\"t\", \"spare\"], \"equal\": [[\"b\", \
                 \"c\", \"d\"]], \"repeated\": [{\"line\": 5, \"first\": 3}, {\"line\": 6, \"first\": \
