@@ -112,22 +112,8 @@ impl State {
 
     /// The state in a file's bytes, or what is wrong with them.
     pub fn read(bytes: &[u8]) -> Result<State, String> {
-        if !bytes.starts_with(&MAGIC) {
-            return Err("it does not begin with `GIRVOTAL`".into());
-        }
+        check_header(bytes)?;
         let number = |at: usize| number_at(bytes, at).ok_or("its header is cut off");
-        let version = number(8)?;
-        if version != VERSION as usize {
-            return Err(format!(
-                "its version is {version}, and {VERSION} is read here"
-            ));
-        }
-        if number(16)? != bytes.len() {
-            return Err(format!("it has {} bytes, not {}", bytes.len(), number(16)?));
-        }
-        if number(CHECKSUM_AT)? != crc32(&bytes[SUMMED_FROM..]) as usize {
-            return Err("its checksum is wrong".into());
-        }
         let section = |at: usize| {
             let (from, length) = (number_at(bytes, at)?, number_at(bytes, at + 4)?);
             bytes.get(from..from.checked_add(length)?)
@@ -153,6 +139,27 @@ impl State {
             return Err("its sections are not where they belong".into());
         }
         Ok(state)
+    }
+}
+
+/// What is wrong with a file's magic, version, length or checksum.
+fn check_header(bytes: &[u8]) -> Result<(), String> {
+    if !bytes.starts_with(&MAGIC) {
+        return Err("it does not begin with `GIRVOTAL`".into());
+    }
+    let number = |at: usize| number_at(bytes, at).ok_or("its header is cut off");
+    let version = number(8)?;
+    if version != VERSION as usize {
+        return Err(format!(
+            "its version is {version}, and {VERSION} is read here"
+        ));
+    }
+    if number(16)? != bytes.len() {
+        return Err(format!("it has {} bytes, not {}", bytes.len(), number(16)?));
+    }
+    match number(CHECKSUM_AT)? == crc32(&bytes[SUMMED_FROM..]) as usize {
+        true => Ok(()),
+        false => Err("its checksum is wrong".into()),
     }
 }
 
