@@ -94,7 +94,7 @@ questions! {
     18 NotInForce "not in force" "an axiom to withdraw is not in force"
         "leave it out of the list"
     19 Occurs "occurs" "a concept named does not occur: it is in no axiom in force"
-        "for a wish, define a kind that is equal to it"
+        "for a wish, classify with a kind equal to it, as query does"
     20 Output "output" "the output is too short"
         "lend as many bytes as girvotal_check answers"
     22 Whole "whole" "a list of axioms has more than 64, or not whole ones"
