@@ -87,6 +87,20 @@ pub fn cannot(what: &str, path: &OsStr, error: &io::Error) -> Failure {
     Failure::File(format!("cannot {what} {path}: {error}; {advice}"))
 }
 
+/// The parts up to a place, and those from there on; the one in which it lies is split.
+fn split<'p>(parts: &[&'p [u8]], mut at: usize) -> (Vec<&'p [u8]>, Vec<&'p [u8]>) {
+    let halves = parts.iter().map(|part| {
+        let here = at.min(part.len());
+        at -= here;
+        part.split_at(here)
+    });
+    halves.unzip()
+}
+
+fn write_all(file: &mut File, parts: &[&[u8]]) -> io::Result<()> {
+    parts.iter().try_for_each(|part| file.write_all(part))
+}
+
 /// A file to be made. Where it is to replace a plain file, or there is none yet, no other run can
 /// make one in its folder from now on until this is dropped.
 #[derive(Debug)]
@@ -144,15 +158,15 @@ impl Target {
         }
     }
 
-    /// Writes the bytes and gives the file its name.
-    pub fn save(self, bytes: &[u8], streams: &Streams<'_>) -> Result<(), Failure> {
+    /// Writes the parts and gives the file its name.
+    pub fn save(self, parts: &[&[u8]], streams: &Streams<'_>) -> Result<(), Failure> {
         let path = self.path.as_path();
         let saved = match &self.plain {
-            Some(plain) => plain.save(path, bytes, streams.after),
+            Some(plain) => plain.save(path, parts, streams.after),
             None => OpenOptions::new()
                 .write(true)
                 .open(path)
-                .and_then(|mut file| file.write_all(bytes)),
+                .and_then(|mut file| write_all(&mut file, parts)),
         };
         saved.map_err(|error| cannot("write", path.as_os_str(), &error))
     }
@@ -177,7 +191,7 @@ fn writable(path: &Path) -> io::Result<Option<Metadata>> {
 
 impl Plain {
     /// The steps; those before the new name are undone where one fails. Signals wait meanwhile.
-    fn save(&self, path: &Path, bytes: &[u8], after: &dyn Fn(Step)) -> io::Result<()> {
+    fn save(&self, path: &Path, parts: &[&[u8]], after: &dyn Fn(Step)) -> io::Result<()> {
         let _held = Held::back();
         let mut new = New::create(path, self.old.is_some())?;
         after(Step::Created);
@@ -185,10 +199,11 @@ impl Plain {
             new.keep(old)?;
         }
         after(Step::Permitted);
-        let (first, second) = bytes.split_at(bytes.len() / 2);
-        new.file.write_all(first)?;
+        let length = parts.iter().map(|part| part.len()).sum::<usize>();
+        let (first, second) = split(parts, length / 2);
+        write_all(&mut new.file, &first)?;
         after(Step::HalfWritten);
-        new.file.write_all(second)?;
+        write_all(&mut new.file, &second)?;
         after(Step::Written);
         new.file.sync_all()?;
         after(Step::Synced);

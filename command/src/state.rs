@@ -83,36 +83,50 @@ impl State {
 
     /// The file's bytes.
     pub fn bytes(&self) -> Vec<u8> {
-        let names = name_bytes(&self.names);
-        let (n, m) = (self.names.concepts.len(), self.names.roles.len());
-        let catalogue = self.site.catalogue().bytes();
-        let sections = [names.as_slice(), catalogue, self.site.store()];
+        self.parts().all().concat()
+    }
+
+    /// The file's parts, the store as it lies in memory.
+    pub fn parts(&self) -> Parts<'_> {
+        let parts = self.unsummed();
+        let [head, catalogue, gap, store] = parts.all();
+        let sum = crc32(&[&head[SUMMED_FROM..], catalogue, gap, store]);
+        parts.summed(sum)
+    }
+
+    /// The same with a checksum of 0.
+    fn unsummed(&self) -> Parts<'_> {
         let whole = |length: usize| length.next_multiple_of(8);
-        let length = sections.map(<[u8]>::len).map(whole).iter().sum::<usize>();
-        let mut bytes = Vec::with_capacity(HEADER + length);
-        bytes.resize(HEADER, 0);
-        let mut places = Vec::new();
-        for section in sections {
-            bytes.resize(whole(bytes.len()), 0);
-            places.extend([bytes.len(), section.len()]);
-            bytes.extend_from_slice(section);
-        }
-        bytes[..8].copy_from_slice(&MAGIC);
-        let fields = [VERSION as usize, 0, bytes.len()]
+        let names = name_bytes(&self.names);
+        let (catalogue, store) = (self.site.catalogue().bytes(), self.site.store());
+        let catalogue_at = HEADER + whole(names.len());
+        let store_at = catalogue_at + whole(catalogue.len());
+        let (n, m) = (self.names.concepts.len(), self.names.roles.len());
+        let places = [
+            [HEADER, names.len()],
+            [catalogue_at, catalogue.len()],
+            [store_at, store.len()],
+        ];
+        let fields = [VERSION as usize, 0, store_at + store.len()]
             .into_iter()
-            .chain(places)
+            .chain(places.into_iter().flatten())
             .chain([n, m]);
-        for (place, field) in bytes[8..HEADER].chunks_exact_mut(4).zip(fields) {
-            place.copy_from_slice(&number_bytes(field));
+        let mut head = Vec::with_capacity(catalogue_at);
+        head.extend(MAGIC);
+        head.extend(fields.flat_map(number_bytes));
+        head.resize(HEADER, 0);
+        head.extend(names);
+        head.resize(catalogue_at, 0);
+        Parts {
+            head,
+            catalogue,
+            store,
         }
-        let sum = crc32(&bytes[SUMMED_FROM..]);
-        bytes[CHECKSUM_AT..SUMMED_FROM].copy_from_slice(&sum.to_le_bytes());
-        bytes
     }
 
     /// The state in a file's bytes, or what is wrong with them.
     pub fn read(bytes: &[u8]) -> Result<State, String> {
-        check_header(bytes)?;
+        let sum = check_header(bytes)?;
         let number = |at: usize| number_at(bytes, at).ok_or("its header is cut off");
         let section = |at: usize| {
             let (from, length) = (number_at(bytes, at)?, number_at(bytes, at + 4)?);
@@ -135,15 +149,15 @@ impl State {
         if state.site.write().map_err(refused)? != catalogue {
             return Err("its catalogue and its store have different axioms".into());
         }
-        if state.bytes() != bytes {
+        if !state.unsummed().summed(sum).are(bytes) {
             return Err("its sections are not where they belong".into());
         }
         Ok(state)
     }
 }
 
-/// What is wrong with a file's magic, version, length or checksum.
-fn check_header(bytes: &[u8]) -> Result<(), String> {
+/// A file's checksum, or what is wrong with it, the magic, the version or the length.
+fn check_header(bytes: &[u8]) -> Result<u32, String> {
     if !bytes.starts_with(&MAGIC) {
         return Err("it does not begin with `GIRVOTAL`".into());
     }
@@ -157,9 +171,41 @@ fn check_header(bytes: &[u8]) -> Result<(), String> {
     if number(16)? != bytes.len() {
         return Err(format!("it has {} bytes, not {}", bytes.len(), number(16)?));
     }
-    match number(CHECKSUM_AT)? == crc32(&bytes[SUMMED_FROM..]) as usize {
-        true => Ok(()),
+    let sum = crc32(&[&bytes[SUMMED_FROM..]]);
+    match number(CHECKSUM_AT)? == sum as usize {
+        true => Ok(sum),
         false => Err("its checksum is wrong".into()),
+    }
+}
+
+/// The parts of a state file, which follow each other.
+#[derive(Clone, Debug)]
+pub struct Parts<'s> {
+    /// The header and the names, up to a multiple of 8.
+    head: Vec<u8>,
+    catalogue: &'s [u8],
+    store: &'s [u8],
+}
+
+impl Parts<'_> {
+    /// Their bytes, and those between the catalogue and the store.
+    pub fn all(&self) -> [&[u8]; 4] {
+        let gap = self.catalogue.len().wrapping_neg() % 8;
+        [&self.head, self.catalogue, &[0; 8][..gap], self.store]
+    }
+
+    fn summed(mut self, sum: u32) -> Self {
+        self.head[CHECKSUM_AT..SUMMED_FROM].copy_from_slice(&sum.to_le_bytes());
+        self
+    }
+
+    /// Whether a file has these parts, and no more.
+    fn are(&self, bytes: &[u8]) -> bool {
+        let all = self.all();
+        let rest = all
+            .iter()
+            .try_fold(bytes, |rest, part| rest.strip_prefix(*part));
+        rest.is_some_and(<[u8]>::is_empty)
     }
 }
 
@@ -240,16 +286,22 @@ fn fit(names: &Names, catalogue: Catalogue<'_>) -> bool {
         })
 }
 
-/// The CRC-32 of zlib, PNG and Ethernet, eight bytes at a time.
-fn crc32(bytes: &[u8]) -> u32 {
+/// The CRC-32 of zlib, PNG and Ethernet, of parts that follow each other.
+fn crc32(parts: &[&[u8]]) -> u32 {
+    !parts
+        .iter()
+        .fold(u32::MAX, |sum, part| crc_steps(sum, part))
+}
+
+/// The sum after some bytes more, eight at a time.
+fn crc_steps(mut sum: u32, bytes: &[u8]) -> u32 {
     let mut eights = bytes.chunks_exact(8);
-    let mut sum = u32::MAX;
     for eight in &mut eights {
         let low = sum.to_le_bytes();
         let mixed = |i: usize| eight[i] ^ low.get(i).unwrap_or(&0);
         sum = (0..8).fold(0, |sum, i| sum ^ CRC_TABLES[7 - i][usize::from(mixed(i))]);
     }
-    !eights.remainder().iter().fold(sum, crc_step)
+    eights.remainder().iter().fold(sum, crc_step)
 }
 
 /// The sum after one byte more.
@@ -288,7 +340,8 @@ mod tests {
     /// The check value that descriptions of CRC-32 give.
     #[test]
     fn crc32_of_the_digits() {
-        assert_eq!(crc32(b"123456789"), 0xCBF4_3926);
+        assert_eq!(crc32(&[b"123456789"]), 0xCBF4_3926);
+        assert_eq!(crc32(&[b"123", b"", b"456789"]), 0xCBF4_3926);
     }
 
     /// By eight bytes it is the same as byte by byte.
@@ -298,7 +351,7 @@ mod tests {
         for length in (0..64).chain([1_000, 4_095, 65_537]) {
             let bytes: Vec<u8> = (0..length).map(|_| random.below(256) as u8).collect();
             let sum = !bytes.iter().fold(u32::MAX, crc_step);
-            assert_eq!(crc32(&bytes), sum, "{length} bytes");
+            assert_eq!(crc32(&[&bytes]), sum, "{length} bytes");
         }
     }
 }

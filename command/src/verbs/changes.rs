@@ -80,7 +80,7 @@ fn changed(
         touched(&difference, &state, &mut text, &mut fields);
     }
     if let Some(target) = target {
-        target.save(&state.bytes(), streams)?;
+        target.save(&state.parts().all(), streams)?;
     }
     Ok(Report::done(text, Json::Object(fields)))
 }

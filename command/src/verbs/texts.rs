@@ -69,7 +69,7 @@ fn told(catalogue: &[u8]) -> Result<Report, Failure> {
 /// that is forced. Where it is standard output, nothing else goes there.
 pub fn made(
     given: &Given,
-    (format, bytes): (Format, &[u8]),
+    (format, parts): (Format, &[&[u8]]),
     report: Report,
     streams: &mut Streams<'_>,
 ) -> Result<Report, Failure> {
@@ -77,7 +77,9 @@ pub fn made(
         return Ok(report);
     };
     if files::is_stream(path) {
-        files::put(streams.output, bytes)?;
+        parts
+            .iter()
+            .try_for_each(|part| files::put(streams.output, part))?;
         return Ok(Report::done(String::new(), Json::Nothing));
     }
     if files::same(given.operand(0), path) {
@@ -99,7 +101,7 @@ pub fn made(
             format.what()
         )));
     }
-    target.save(bytes, streams)?;
+    target.save(parts, streams)?;
     Ok(report)
 }
 
@@ -122,7 +124,7 @@ pub fn check(given: &Given, streams: &mut Streams<'_>) -> Result<Report, Failure
 pub fn compile(given: &Given, streams: &mut Streams<'_>) -> Result<Report, Failure> {
     let Compiled { catalogue, .. } = read_text(given.operand(0), streams)?;
     let report = told(&catalogue)?;
-    made(given, (Format::Catalogue, &catalogue), report, streams)
+    made(given, (Format::Catalogue, &[&catalogue]), report, streams)
 }
 
 /// `text FILE [--exact | --owl | --split]`
@@ -170,12 +172,12 @@ pub fn classify(given: &Given, streams: &mut Streams<'_>) -> Result<Report, Fail
         ("links", counts.links.into()),
     ]);
     let report = Report::done(text, Json::Object(fields));
-    made(given, (Format::State, &state.bytes()), report, streams)
+    made(given, (Format::State, &state.parts().all()), report, streams)
 }
 
 /// `write STATE -o CATALOGUE`
 pub fn write(given: &Given, streams: &mut Streams<'_>) -> Result<Report, Failure> {
     let catalogue = read_state(given.operand(0), streams)?.site.write()?;
     let report = told(&catalogue)?;
-    made(given, (Format::Catalogue, &catalogue), report, streams)
+    made(given, (Format::Catalogue, &[&catalogue]), report, streams)
 }

@@ -26,7 +26,7 @@ pub fn update(given: &Given, streams: &mut Streams<'_>) -> Result<Report, Failur
     let (new, moved) = follow(&old, wanted)?;
     let report = told(&old, &new, moved.as_ref())?;
     if let Some(target) = target {
-        target.save(&new.bytes(), streams)?;
+        target.save(&new.parts().all(), streams)?;
     }
     Ok(report)
 }

@@ -41,7 +41,7 @@ pub fn tree(given: &Given, streams: &mut Streams<'_>) -> Result<Report, Failure>
     let mut fields = vec![("entries", entries(&tree))];
     if given.has("-o") {
         let made = Report::done(amounts(&tree) + "\n", Json::Object(fields));
-        return texts::made(given, (format, picture.as_bytes()), made, streams);
+        return texts::made(given, (format, &[picture.as_bytes()]), made, streams);
     }
     if as_dot || as_html {
         fields.push(("text", picture.as_str().into()));
