@@ -46,8 +46,7 @@ impl State {
             touched,
         } = self.site.change(withdrawn, added)?;
         let touched: Vec<Concept> = touched.iter().collect();
-        let catalogue = self.site.write()?;
-        self.site = Site::of(catalogue, self.site.store().to_vec())?;
+        self.site.rewrite()?;
         let kinds = self.kinds();
         let touched = kinds.into_iter().filter(|kind| touched.contains(kind));
         Ok(Difference {

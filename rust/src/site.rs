@@ -50,7 +50,7 @@ impl Site {
         }
     }
 
-    /// The catalogue that it was made with.
+    /// The catalogue that it was made with, or the one of the last [`rewrite`](Site::rewrite).
     pub fn catalogue(&self) -> Catalogue<'_> {
         Catalogue::checked(&self.catalogue, self.sizes)
     }
@@ -60,7 +60,7 @@ impl Site {
         &self.store
     }
 
-    /// Starts over from the axioms of the catalogue that it was made with.
+    /// Starts over from the axioms of its catalogue.
     pub fn reclassify(&mut self) -> Result<Counts, Refusal> {
         let catalogue = Catalogue::checked(&self.catalogue, self.sizes);
         calls::classify(&catalogue, &mut self.store, &mut self.work)
@@ -102,5 +102,12 @@ impl Site {
         let length = calls::write(&self.catalogue(), &self.store, &mut output)?.len();
         output.truncate(length);
         Ok(output)
+    }
+
+    /// Makes the catalogue the one with the axioms in force; the store stays as it is.
+    pub fn rewrite(&mut self) -> Result<(), Refusal> {
+        // The sizes depend on the concepts and roles alone, which are the same.
+        self.catalogue = self.write()?;
+        Ok(())
     }
 }

@@ -89,6 +89,24 @@ fn as_on_lent_buffers() {
     }
 }
 
+/// A rewritten catalogue is the one with the axioms in force, with the sizes that it asks for.
+#[test]
+fn rewritten_catalogues() {
+    for (name, bytes) in files() {
+        let mut site = classified(&bytes);
+        let axioms: Vec<Axiom> = site.catalogue().axioms().take(3).collect();
+        site.change(&axioms, &[]).expect("accepted");
+        let (store, written) = (site.store().to_vec(), site.write().expect("accepted"));
+        site.rewrite().expect("accepted");
+        assert!(site.store() == store, "{name}");
+        let catalogue = Catalogue::new(&written).expect("an accepted catalogue");
+        assert_eq!(site.catalogue(), catalogue, "{name}");
+        assert_eq!(site.catalogue().sizes(), catalogue.sizes(), "{name}");
+        site.reclassify().expect("accepted");
+        assert!(site.store() == store, "{name}");
+    }
+}
+
 /// A store kept from before is taken as it is, with any bytes past its used part.
 #[test]
 fn kept_stores() {
