@@ -6,7 +6,7 @@ use std::time::Duration;
 use crate::failure::Failure;
 use crate::not_utf8;
 use crate::text::nearest;
-use crate::verbs::{Verb, VERBS};
+use crate::verbs::{VERBS, Verb};
 
 /// An option of a verb.
 #[derive(Debug)]
@@ -56,8 +56,7 @@ pub const OPTIONS: [Flag; 3] = [
 const WAIT: Duration = Duration::from_secs(5);
 
 /// What the command is for.
-pub const DESCRIPTION: &str =
-    "Says which kinds of a catalogue lie under which, and keeps that in step while axioms\n\
+pub const DESCRIPTION: &str = "Says which kinds of a catalogue lie under which, and keeps that in step while axioms\n\
      are added and withdrawn.";
 
 /// What `-` stands for.

@@ -1,6 +1,6 @@
 //! The completion of the command in bash, made from the table of verbs.
 
-use crate::arguments::{Flag, COMMON, OPTIONS};
+use crate::arguments::{COMMON, Flag, OPTIONS};
 use crate::verbs::Verb;
 
 /// What operands and values are called that are files.

@@ -3,14 +3,14 @@
 use std::ffi::{OsStr, OsString};
 use std::fs::{self, File, Metadata, OpenOptions};
 use std::io::{self, ErrorKind, Write};
-use std::os::unix::fs::{fchown, MetadataExt, OpenOptionsExt};
+use std::os::unix::fs::{MetadataExt, OpenOptionsExt, fchown};
 use std::path::{Path, PathBuf};
 use std::time::Duration;
 
+use crate::Streams;
 use crate::failure::Failure;
 use crate::lock::Lock;
 use crate::system::Held;
-use crate::Streams;
 
 /// A step of making a file.
 #[derive(Clone, Copy, Debug, PartialEq, Eq)]

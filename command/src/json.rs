@@ -72,11 +72,7 @@ impl fmt::Display for Json {
 
 /// What stands before the value of a number in its array or object.
 fn separator(i: usize) -> &'static str {
-    if i == 0 {
-        ""
-    } else {
-        ", "
-    }
+    if i == 0 { "" } else { ", " }
 }
 
 /// A string with what JSON wants escaped.

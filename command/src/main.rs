@@ -4,7 +4,7 @@ use std::io::{self, Write};
 use std::process::ExitCode;
 
 use girvotal_command::system::output_was_closed;
-use girvotal_command::{run, Streams};
+use girvotal_command::{Streams, run};
 
 /// A standard output that was closed: nothing can be written to it.
 struct Closed;

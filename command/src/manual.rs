@@ -1,6 +1,6 @@
 //! The manual page `girvotal.1`, made from the table of verbs.
 
-use crate::arguments::{Flag, DESCRIPTION, OPTIONS, STATUSES, STREAMS};
+use crate::arguments::{DESCRIPTION, Flag, OPTIONS, STATUSES, STREAMS};
 use crate::verbs::Verb;
 
 /// Lines that are run, with what they print.

@@ -4,7 +4,7 @@ use std::collections::HashSet;
 
 use girvotal::{Axiom, Catalogue, Changed, Concept, Counts, Record, Refusal, Site};
 
-use crate::text::{is_name, Compiled, Names, Reader};
+use crate::text::{Compiled, Names, Reader, is_name};
 
 /// The first bytes of a state file.
 pub const MAGIC: [u8; 8] = *b"GIRVOTAL";

@@ -10,8 +10,8 @@ use std::process::{Command, Stdio};
 use std::time::{Duration, Instant};
 
 use girvotal_command::files::Step;
-use girvotal_command::{run, Streams};
-use support::{words, Folder};
+use girvotal_command::{Streams, run};
+use support::{Folder, words};
 
 /// The line to run, the step to break off after, and the signal to send itself there instead, for
 /// the run that this test starts.

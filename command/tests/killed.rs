@@ -11,7 +11,7 @@ use std::time::Duration;
 
 use girvotal_command::state::State;
 use reference::random::Random;
-use support::{say, words, Folder};
+use support::{Folder, say, words};
 
 /// How many write at once, and how many kinds the state has.
 const WRITERS: usize = 4;

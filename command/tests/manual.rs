@@ -5,10 +5,10 @@ use std::io::ErrorKind;
 use std::path::{Path, PathBuf};
 use std::process::Command;
 
-use girvotal_command::arguments::{Flag, COMMON, OPTIONS};
+use girvotal_command::arguments::{COMMON, Flag, OPTIONS};
 use girvotal_command::completion::completion;
-use girvotal_command::manual::{manual, GRAMMAR};
-use girvotal_command::verbs::{Verb, VERBS};
+use girvotal_command::manual::{GRAMMAR, manual};
+use girvotal_command::verbs::{VERBS, Verb};
 
 fn path(name: &str) -> PathBuf {
     Path::new(env!("CARGO_MANIFEST_DIR")).join(name)
@@ -84,9 +84,11 @@ fn page() {
     }
     let grammar = words(GRAMMAR);
     let documented = words(&read("../docs/COMMAND.md"));
-    assert!(documented
-        .windows(grammar.len())
-        .any(|some| some == grammar));
+    assert!(
+        documented
+            .windows(grammar.len())
+            .any(|some| some == grammar)
+    );
 }
 
 /// Only these requests stand in a page, whatever the table says; the formatters that are here

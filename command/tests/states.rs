@@ -7,7 +7,7 @@ mod support;
 
 use girvotal::{Concept, Question};
 use girvotal_command::state::State;
-use girvotal_command::text::{compile, is_name, Compiled, Names};
+use girvotal_command::text::{Compiled, Names, compile, is_name};
 use reference::calls;
 use reference::random::Random;
 use std::collections::HashSet;

@@ -57,7 +57,7 @@ pub use builder::Builder;
 pub use calls::{Changed, Concepts, Counts, Row};
 pub use calls::{change, classify, list, lookup, row, write};
 pub use catalogue::{Axiom, Catalogue, Composition, Concept, Inclusion, Record, Role, Sizes};
-pub use query::{query, Met};
+pub use query::{Met, query};
 pub use refusal::{Question, Refusal};
 pub use site::Site;
 

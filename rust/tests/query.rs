@@ -2,7 +2,7 @@
 
 use std::path::Path;
 
-use girvotal::{query, Builder, Catalogue, Concept, Question, Record, Role, Site};
+use girvotal::{Builder, Catalogue, Concept, Question, Record, Role, Site, query};
 
 /// The catalogues of `data/`.
 fn catalogues() -> Vec<(String, Vec<u8>)> {

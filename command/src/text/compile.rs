@@ -7,7 +7,7 @@ use girvotal::{Axiom, Catalogue, Composition, Inclusion, Record, Role};
 use super::draft::Draft;
 use super::expression::{Expression, Node};
 use super::faults::{Failure, Fault, Faults, Problem};
-use super::names::{quoted, Names};
+use super::names::{Names, quoted};
 use super::parser::Parser;
 use super::scope::{Declared, Meaning, Scope};
 use super::split::{built, split_draft};

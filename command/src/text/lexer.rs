@@ -2,7 +2,7 @@
 
 use std::borrow::Cow;
 
-use super::names::{begins, continues, quoted, RESERVED};
+use super::names::{RESERVED, begins, continues, quoted};
 
 /// What a token is.
 #[derive(Clone, Debug, PartialEq, Eq)]

@@ -35,13 +35,13 @@ mod split;
 mod statement;
 mod uses;
 
-pub use compile::{compile, compile_split, repeated, split, Compiled};
+pub use compile::{Compiled, compile, compile_split, repeated, split};
 pub use expression::Expression;
 pub use faults::{Failure, Fault};
-pub use names::{is_name, quoted, Names};
+pub use names::{Names, is_name, quoted};
 pub use nearest::nearest;
 pub use owl::owl;
-pub use print::{print, statements, Line};
-pub use resolve::{entered, extended, in_force, written, Extended, Reader};
+pub use print::{Line, print, statements};
+pub use resolve::{Extended, Reader, entered, extended, in_force, written};
 pub use split::splittable;
 pub use uses::{used, used_roles};

@@ -2,7 +2,7 @@
 
 use girvotal::{Catalogue, Concept, Record, Role};
 
-use super::names::{in_quotes, Names};
+use super::names::{Names, in_quotes};
 
 /// The prefixes of an ontology. Those of its own name no host.
 const PREFIXES: [(&str, &str); 5] = [

@@ -7,7 +7,7 @@ use girvotal::Role;
 
 use super::expression::{Expression, Node};
 use super::faults::{Faults, Problem};
-use super::lexer::{tokens, Lexeme, Token};
+use super::lexer::{Lexeme, Token, tokens};
 use super::names::quoted;
 use super::scope::{Meaning, Scope};
 
@@ -212,7 +212,7 @@ impl<'a> Parser<'a> {
         let name = match self.lexeme() {
             Lexeme::Name(name) => name,
             Lexeme::Fixed("none") => {
-                return self.error("`none` is reserved, and means nothing yet".to_owned())
+                return self.error("`none` is reserved, and means nothing yet".to_owned());
             }
             _ => return self.expected("a concept"),
         };

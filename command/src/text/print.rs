@@ -5,7 +5,7 @@ use std::ops::Range;
 
 use girvotal::{Axiom, Catalogue, Concept, Record, Role};
 
-use super::expression::{write, Shape};
+use super::expression::{Shape, write};
 use super::names::{Names, Spelling};
 
 /// The column at which lists of names are broken.

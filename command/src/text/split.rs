@@ -8,7 +8,7 @@ use super::compile::Compiled;
 use super::draft::Draft;
 use super::faults::Failure;
 use super::names::Names;
-use super::print::{parts, statements, Line};
+use super::print::{Line, parts, statements};
 
 /// What splitting does to a draft.
 pub(super) struct Split {

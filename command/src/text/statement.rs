@@ -3,9 +3,9 @@
 use girvotal::{Composition, Inclusion};
 
 use super::expression::Expression;
-use super::faults::{not_declared, Problem};
+use super::faults::{Problem, not_declared};
 use super::lexer::{Lexeme, Token};
-use super::names::{quoted, RESERVED};
+use super::names::{RESERVED, quoted};
 use super::nearest::nearest;
 use super::parser::{Parsed, Parser};
 use super::scope::Meaning;

@@ -13,18 +13,18 @@ mod texts;
 mod tree;
 mod update;
 
-pub use table::{Verb, VERBS};
+pub use table::{VERBS, Verb};
 
 use std::ffi::OsStr;
 
 use girvotal::{Catalogue, Question};
 
+use crate::Streams;
 use crate::failure::Failure;
 use crate::files;
 use crate::json::Json;
-use crate::state::{State, MAGIC};
+use crate::state::{MAGIC, State};
 use crate::text::{self, Compiled, Fault, Names};
-use crate::Streams;
 use format::Format;
 
 /// A path as it is shown.

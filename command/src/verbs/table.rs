@@ -160,8 +160,7 @@ pub const VERBS: &[Verb] = &[
         flags: &[Flag {
             name: "--direct",
             value: "",
-            help:
-                "only those directly below: under B, not equal to it, and under no other such kind",
+            help: "only those directly below: under B, not equal to it, and under no other such kind",
         }],
         summary: "list the kinds under B",
         help: "Prints every kind that lies under B, a kind or an expression, one a line. A\n\
@@ -176,8 +175,7 @@ pub const VERBS: &[Verb] = &[
         flags: &[Flag {
             name: "--direct",
             value: "",
-            help:
-                "only those directly above: above A, not equal to it, and above no other such kind",
+            help: "only those directly above: above A, not equal to it, and above no other such kind",
         }],
         summary: "list the kinds above A",
         help: "Prints every kind that A, a kind or an expression, lies under, one a line. A\n\
@@ -230,8 +228,7 @@ pub const VERBS: &[Verb] = &[
             WAIT,
         ],
         summary: "draw the kinds as a tree",
-        help:
-            "Prints all kinds as a tree: equal ones in one entry, `a = b`, and under each entry\n\
+        help: "Prints all kinds as a tree: equal ones in one entry, `a = b`, and under each entry\n\
                those directly below, by name. An entry with several above stands under each;\n\
                what lies below it stands at the first place alone, the others have ` ^`. Kinds\n\
                in no axiom in force come last.",
@@ -271,8 +268,7 @@ pub const VERBS: &[Verb] = &[
         optional: 0,
         flags: &[TOUCHED, DRY_RUN, WAIT],
         summary: "add one axiom, or enter a kind",
-        help:
-            "The same as `change STATE --in 'A < B'`; with `kind NAME`, a kind of which nothing\n\
+        help: "The same as `change STATE --in 'A < B'`; with `kind NAME`, a kind of which nothing\n\
                is said yet.",
         run: changes::add,
     },

@@ -172,7 +172,12 @@ pub fn classify(given: &Given, streams: &mut Streams<'_>) -> Result<Report, Fail
         ("links", counts.links.into()),
     ]);
     let report = Report::done(text, Json::Object(fields));
-    made(given, (Format::State, &state.parts().all()), report, streams)
+    made(
+        given,
+        (Format::State, &state.parts().all()),
+        report,
+        streams,
+    )
 }
 
 /// `write STATE -o CATALOGUE`

@@ -1,6 +1,6 @@
 //! A state brought in step with a text.
 
-use girvotal::{Axiom, Catalogue, AXIOMS_MOST};
+use girvotal::{AXIOMS_MOST, Axiom, Catalogue};
 
 use super::pairs::Pairs;
 use super::{changes, count, read_text};

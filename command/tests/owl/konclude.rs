@@ -3,10 +3,10 @@
 use crate::hierarchy::Hierarchy;
 use crate::reader::Ontology;
 use crate::regular::{is_regular, with_regular_roles};
-use crate::support::{say, Folder};
+use crate::support::{Folder, say};
 use crate::{read, sources};
 use girvotal::{Concept, Record, Row, Site};
-use girvotal_command::text::{compile, owl, Compiled, Names};
+use girvotal_command::text::{Compiled, Names, compile, owl};
 use reference::calls::classified;
 use reference::catalogue::{self, Catalogue};
 use reference::random::Random;

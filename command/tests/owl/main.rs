@@ -10,7 +10,7 @@ mod sources;
 mod support;
 
 use girvotal::{Catalogue, Record};
-use girvotal_command::text::{compile, owl, Names};
+use girvotal_command::text::{Names, compile, owl};
 use reader::Ontology;
 use reference::catalogue::{self, Concept};
 use reference::random::Random;

@@ -123,9 +123,11 @@ impl Ontology {
         let mut prefixes = HashMap::new();
         let document = terms(&mut tokens(text).into_iter(), &mut prefixes);
         let (last, before) = document.split_last().expect("an ontology");
-        assert!(before
-            .iter()
-            .all(|term| matches!(term, Term::Applied(head, _) if head == "Prefix")));
+        assert!(
+            before
+                .iter()
+                .all(|term| matches!(term, Term::Applied(head, _) if head == "Prefix"))
+        );
         let Term::Applied(head, axioms) = last else {
             panic!("{last:?} is no ontology");
         };

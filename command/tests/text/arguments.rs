@@ -3,7 +3,7 @@
 use crate::{axioms as numbers, compiled, records};
 use girvotal::{Axiom, Catalogue, Concept, Question};
 use girvotal_command::text::{
-    extended, print, written, Compiled, Expression, Extended, Failure, Fault, Reader,
+    Compiled, Expression, Extended, Failure, Fault, Reader, extended, print, written,
 };
 
 /// Two doubles of `has some tap` (5 and 7), of which the second is in an axiom; one conjunction
@@ -147,12 +147,21 @@ fn axioms_by_their_sides() {
             "tap",
             "1:4: error: expected `and`, `<` or `=`, found the end of the line",
         ),
-        ("kind x", "1:1: error: `kind` is no axiom: print the text by `girvotal text STATE`, change it, and \
-             `girvotal update STATE TEXT`"),
-        ("role x", "1:1: error: `role` is no axiom: print the text by `girvotal text STATE`, change it, and \
-             `girvotal update STATE TEXT`"),
-        ("let x = any", "1:1: error: `let` is no axiom: print the text by `girvotal text STATE`, change it, and \
-             `girvotal update STATE TEXT`"),
+        (
+            "kind x",
+            "1:1: error: `kind` is no axiom: print the text by `girvotal text STATE`, change it, and \
+             `girvotal update STATE TEXT`",
+        ),
+        (
+            "role x",
+            "1:1: error: `role` is no axiom: print the text by `girvotal text STATE`, change it, and \
+             `girvotal update STATE TEXT`",
+        ),
+        (
+            "let x = any",
+            "1:1: error: `let` is no axiom: print the text by `girvotal text STATE`, change it, and \
+             `girvotal update STATE TEXT`",
+        ),
         (
             "has < has",
             "1:1: error: role axioms cannot be changed; classify the changed text",
@@ -166,7 +175,9 @@ fn axioms_by_their_sides() {
             "1:7: error: `tapp` is not declared; did you mean `tap`?",
         ),
     ] {
-        let faults = Reader::of(&doubles.names, read(&doubles)).axioms(source).unwrap_err();
+        let faults = Reader::of(&doubles.names, read(&doubles))
+            .axioms(source)
+            .unwrap_err();
         assert_eq!(told(faults), [expected], "{source}");
     }
 }

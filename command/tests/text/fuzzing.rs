@@ -2,10 +2,10 @@
 //! text changed.
 
 use crate::compiled;
-use crate::mutations::{texts, Tally, PIECES};
+use crate::mutations::{PIECES, Tally, texts};
 use crate::support::say;
 use girvotal::Catalogue;
-use girvotal_command::text::{written, Reader};
+use girvotal_command::text::{Reader, written};
 use reference::random::Random;
 
 /// One of some.

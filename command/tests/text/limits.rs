@@ -2,7 +2,7 @@
 
 use crate::compiled;
 use girvotal::{Catalogue, Question};
-use girvotal_command::text::{compile, compile_split, print, Compiled, Failure};
+use girvotal_command::text::{Compiled, Failure, compile, compile_split, print};
 use std::fmt::Write;
 
 /// Names of so many kinds or roles, by commas.

@@ -11,7 +11,7 @@ mod sources;
 mod support;
 
 use girvotal::{Catalogue, Record};
-use girvotal_command::text::{compile, repeated, Compiled, Failure};
+use girvotal_command::text::{Compiled, Failure, compile, repeated};
 
 /// A text that compiles.
 fn compiled(text: &str) -> Compiled {

@@ -3,7 +3,7 @@
 use crate::sources;
 use crate::support::say;
 use girvotal::{Catalogue, Question};
-use girvotal_command::text::{compile, print, Failure, Fault, Names};
+use girvotal_command::text::{Failure, Fault, Names, compile, print};
 use reference::random::Random;
 
 /// What is put into a text.

@@ -3,7 +3,7 @@
 use crate::support::once;
 use crate::{compiled, sources};
 use girvotal::{Catalogue, Concept, Question, Record, Site};
-use girvotal_command::text::{print, Names};
+use girvotal_command::text::{Names, print};
 use reference::catalogue;
 use reference::random::Random;
 use std::collections::BTreeMap;

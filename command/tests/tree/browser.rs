@@ -3,7 +3,7 @@
 use std::process::Command;
 
 use crate::picture::{drawn, state};
-use crate::support::{say, Folder};
+use crate::support::{Folder, say};
 
 /// Puts a filter into the box and tells which places are seen, one a line; those that fit have `*`.
 const ASK: &str = r#"<script>
@@ -51,8 +51,7 @@ fn shown(page: &str, filters: &[&str]) -> Option<Vec<String>> {
 
 #[test]
 fn filtered() {
-    let text =
-        "kind place, \"Straße am See\", \"Großer Zeltplatz\", \"Café Süd\", pitch, \"Cafe Nord\"\n\
+    let text = "kind place, \"Straße am See\", \"Großer Zeltplatz\", \"Café Süd\", pitch, \"Cafe Nord\"\n\
                 \"Straße am See\" < place\n\"Café Süd\" < \"Straße am See\"\n\
                 \"Cafe Nord\" < place\npitch < \"Café Süd\"\npitch < \"Großer Zeltplatz\"\n";
     let page = drawn(&state(text), &["--html"]);

@@ -17,7 +17,7 @@ mod xml;
 
 use girvotal_command::json::Json;
 use girvotal_command::state::State;
-use picture::{drawn, places, state, Place};
+use picture::{Place, drawn, places, state};
 use support::Folder;
 
 /// The lake's tree.
@@ -157,9 +157,11 @@ fn files() {
             assert!(object.ends_with(&format!(", {}\n", &text[1..])), "{object}");
         }
     }
-    assert!(folder
-        .done("tree lake.state --html")
-        .contains("<title>lake</title>"));
+    assert!(
+        folder
+            .done("tree lake.state --html")
+            .contains("<title>lake</title>")
+    );
     let page = folder.shell("girvotal tree - --html < lake.state").1;
     assert!(page.contains("<title>Kinds</title>"), "{page}");
     let usage = "usage: girvotal tree STATE [--dot | --html] [-o FILE]";
@@ -209,9 +211,11 @@ fn axioms() {
     assert_eq!((of("b"), of("c")), (vec!["b = c".to_owned()], of("b")));
     assert_eq!(of("d"), ["d = r some e"]);
     assert_eq!(of("e"), ["e < c"]);
-    assert!(places
-        .iter()
-        .all(|place| place.first || place.axioms.is_empty()));
+    assert!(
+        places
+            .iter()
+            .all(|place| place.first || place.axioms.is_empty())
+    );
 }
 
 /// A page says what it was made of, and when.

@@ -5,7 +5,7 @@ use std::collections::{HashMap, HashSet};
 use girvotal_command::json::Json;
 use girvotal_command::state::State;
 use girvotal_command::text::{self, Compiled};
-use girvotal_command::{run, Streams};
+use girvotal_command::{Streams, run};
 
 use crate::xml::{self, Element};
 

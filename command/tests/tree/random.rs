@@ -7,7 +7,7 @@ use girvotal_command::state::State;
 use girvotal_command::text::{Compiled, Names};
 use reference::random::Random;
 
-use crate::picture::{classified, places, state, Place};
+use crate::picture::{Place, classified, places, state};
 use crate::sources;
 
 /// How many catalogues are drawn.

@@ -167,8 +167,7 @@ fn misspelt_names() {
         }
     }
     // The sides of an axiom, which must be quoted.
-    let near =
-        "`pitch < Seeplatz Sud`:1:9: error: `\"Seeplatz Sud\"` is not declared; did you mean \
+    let near = "`pitch < Seeplatz Sud`:1:9: error: `\"Seeplatz Sud\"` is not declared; did you mean \
                 `\"Seeplatz Süd\"`?\n";
     let bare = "`Seeplatz Süd < pitch`:1:1: error: in an axiom this name is quoted: `\"Seeplatz \
                 Süd\"`\n";

@@ -1,14 +1,14 @@
 //! Files and streams: trouble with them, links, permissions.
 
 use std::fs::{self, File};
-use std::os::unix::fs::{chown, FileTypeExt, MetadataExt, PermissionsExt};
+use std::os::unix::fs::{FileTypeExt, MetadataExt, PermissionsExt, chown};
 use std::os::unix::process::CommandExt;
 use std::path::Path;
 use std::process::Stdio;
 
 use girvotal_command::verbs::VERBS;
 
-use crate::support::{say, told, words, Folder};
+use crate::support::{Folder, say, told, words};
 
 #[test]
 fn file_trouble() {
@@ -169,9 +169,11 @@ fn links_and_permissions() {
     folder.done("withdraw link 'tap < supplies some water'");
     let mode = fs::metadata(&path).expect("the state").permissions().mode();
     assert_eq!(mode & 0o777, 0o640);
-    assert!(fs::symlink_metadata(folder.path.join("link"))
-        .expect("the link")
-        .is_symlink());
+    assert!(
+        fs::symlink_metadata(folder.path.join("link"))
+            .expect("the link")
+            .is_symlink()
+    );
     assert_eq!(
         folder
             .run("lookup lake.state 'Seeplatz Süd' comfort-pitch")

@@ -39,7 +39,12 @@ fn w1() {
     check(
         &folder,
         &[
-            ("check w1.gv", 0, "4 kinds, 3 roles, 7 concepts, 3 axioms\n", ""),
+            (
+                "check w1.gv",
+                0,
+                "4 kinds, 3 roles, 7 concepts, 3 axioms\n",
+                "",
+            ),
             (
                 "classify w1.gv -o w1.state",
                 0,
@@ -48,8 +53,18 @@ fn w1() {
             ),
             ("lookup w1.state corner-pitch powered-pitch", 0, "yes\n", ""),
             ("lookup w1.state powered-pitch corner-pitch", 1, "no\n", ""),
-            ("list w1.state 'offers some electricity'", 0, "corner-pitch\n", ""),
-            ("list w1.state powered-pitch", 0, "corner-pitch\npowered-pitch\n", ""),
+            (
+                "list w1.state 'offers some electricity'",
+                0,
+                "corner-pitch\n",
+                "",
+            ),
+            (
+                "list w1.state powered-pitch",
+                0,
+                "corner-pitch\npowered-pitch\n",
+                "",
+            ),
             ("above w1.state 'has some pillar'", 0, "powered-pitch\n", ""),
             (
                 "withdraw w1.state 'pillar < supplies some electricity'",
@@ -71,7 +86,12 @@ fn w1() {
                 "+ corner-pitch < powered-pitch\n0 lost, 1 gained; one change: 0 axioms out, 1 in\n",
                 "",
             ),
-            ("write w1.state -o back.bin", 0, "4 kinds, 3 roles, 7 concepts, 3 axioms\n", ""),
+            (
+                "write w1.state -o back.bin",
+                0,
+                "4 kinds, 3 roles, 7 concepts, 3 axioms\n",
+                "",
+            ),
         ],
     );
     assert_eq!(folder.read("back.bin"), folder.read("w1.bin"));

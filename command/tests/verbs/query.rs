@@ -10,8 +10,7 @@ fn wishes() {
     let before = folder.read("lake.state");
     let powered = "corner-pitch\nSeeplatz Süd\n= powered-pitch\ncomfort-pitch\n< pitch\n";
     let unknown = "`has some tapp`:1:10: error: `tapp` is not declared; did you mean `tap`?\n";
-    let json =
-        "{\"kinds\": [\"Seeplatz Süd\", \"comfort-pitch\"], \"equal\": [\"comfort-pitch\"], \
+    let json = "{\"kinds\": [\"Seeplatz Süd\", \"comfort-pitch\"], \"equal\": [\"comfort-pitch\"], \
                 \"above\": [\"powered-pitch\"]}\n";
     check(
         &folder,

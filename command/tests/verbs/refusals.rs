@@ -13,8 +13,7 @@ fn refusals() {
     kind[20 + 6 * 5] = 4;
     folder.write("kind.bin", kind);
     let before = folder.read("lake.state");
-    let over =
-        "a count is outside its limits: 1 to 512 concepts, at most 16 roles, 64 inclusions, \
+    let over = "a count is outside its limits: 1 to 512 concepts, at most 16 roles, 64 inclusions, \
                 64 compositions, 4,096 axioms";
     let outs: String = (0..65).map(|_| " --in 'tap < water'").collect();
     let twice =

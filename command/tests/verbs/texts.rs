@@ -3,7 +3,7 @@
 use girvotal_command::state::State;
 
 use crate::check;
-use crate::support::{data_files, once, Folder};
+use crate::support::{Folder, data_files, once};
 
 #[test]
 fn wrong_texts() {

@@ -12,8 +12,14 @@ fn usage() {
     let folder = Folder::with_lake();
     let cases = [
         ("", "a verb is missing; `girvotal --help` lists them"),
-        ("lokup lake.state a b", "`lokup` is no verb; `girvotal --help` lists them; did you mean `lookup`?"),
-        ("frobnicate", "`frobnicate` is no verb; `girvotal --help` lists them"),
+        (
+            "lokup lake.state a b",
+            "`lokup` is no verb; `girvotal --help` lists them; did you mean `lookup`?",
+        ),
+        (
+            "frobnicate",
+            "`frobnicate` is no verb; `girvotal --help` lists them",
+        ),
         (
             "lookup lake.state pitch",
             "lookup takes STATE A B; usage: girvotal lookup STATE A B | STATE -",
@@ -38,7 +44,10 @@ fn usage() {
             "text lake.gv --exact --owl",
             "only one of `--exact`, `--owl` and `--split` can be given; leave the others out",
         ),
-        ("add - 'tap < water'", "a state that is changed is a file, not `-`; name one"),
+        (
+            "add - 'tap < water'",
+            "a state that is changed is a file, not `-`; name one",
+        ),
         (
             "compile lake.gv -o lake.gv",
             "lake.gv would be replaced by its own output; name another file",
@@ -71,9 +80,18 @@ fn usage() {
             "lookup lake.state -- pitch --json pitch",
             "lookup takes STATE A B; usage: girvotal lookup STATE A B | STATE -",
         ),
-        ("explain 21", "no refusal has the number `21`; they are 1 to 20, 22, 23 and 65535"),
-        ("explain nineteen", "no refusal has the number `nineteen`; they are 1 to 20, 22, 23 and 65535"),
-        ("explain 65555", "no refusal has the number `65555`; they are 1 to 20, 22, 23 and 65535"),
+        (
+            "explain 21",
+            "no refusal has the number `21`; they are 1 to 20, 22, 23 and 65535",
+        ),
+        (
+            "explain nineteen",
+            "no refusal has the number `nineteen`; they are 1 to 20, 22, 23 and 65535",
+        ),
+        (
+            "explain 65555",
+            "no refusal has the number `65555`; they are 1 to 20, 22, 23 and 65535",
+        ),
     ];
     for (line, sentence) in cases {
         check(

@@ -3,7 +3,7 @@
 use girvotal::{Concept, Refusal, Row};
 
 use crate::state::State;
-use crate::text::{statements, used, Line};
+use crate::text::{Line, statements, used};
 
 /// Kinds of which each lies under the other.
 pub struct Entry<'s> {
