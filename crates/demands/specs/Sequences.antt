@@ -136,10 +136,11 @@ unfoldable pub afterCalls : List ℕ → Axioms → List Call → Axioms
 afterCalls b F [] = F
 afterCalls b F (c ∷ cs) = afterCalls b (afterCall b F c) cs
 
--- After the calls of a list: none are in force before it.
+-- The calls of some turns.
 abbrev pub callsOf : List Turn → List Call
 callsOf ts = map (λ (t : Turn). t .call) ts
 
+-- After the calls of a list: none are in force before it.
 unfoldable pub inForceAfter : List ℕ → List Turn → Axioms
 inForceAfter b ts = afterCalls b none (callsOf ts)
 

@@ -1,4 +1,4 @@
--- The answers of lookup, listing and row: each enum's cases with the paper's number and values.
+-- The answers of lookup: each case with the paper's number and value.
 use Prim.Native.Nat.{ℕ}
 use mathlib.Core.Bool.{Bool, true, false}
 use mathlib.Core.List.{List, [], _∷_}

@@ -1,4 +1,4 @@
--- `sizing::measure` meets its contract: questions 1 to 9, and then the four numbers.
+-- `buffer_sizes::measure` meets its contract: questions 1 to 9, and then the four numbers.
 use native.Mathlib.Omega.{arith}
 use mathlib.Core.Path.{_≡_, sym, ap, _∙_}
 use denote.Ref.{now}

@@ -1,4 +1,4 @@
--- `sizing::most_axioms` meets its contract.
+-- `buffer_sizes::most_axioms` meets its contract.
 use native.Mathlib.Nat.{mul-le-mul}
 use native.Mathlib.Omega.{arith}
 use borrow.Author.Needs.{needs}

@@ -1,4 +1,4 @@
--- `sizing::most_written` meets its contract.
+-- `buffer_sizes::most_written` meets its contract.
 use Prim.Native.Nat.{ℕ, _+_, _*_}
 use mathlib.Core.Path.{ap, ap₂, _∙_}
 use borrow.Author.Needs.{needs}

@@ -1,4 +1,4 @@
--- `cases::fill` meets its contract: every byte of the buffer is the byte.
+-- `test_cases::fill` meets its contract: every byte of the buffer is the byte.
 use mathlib.Core.Path.{_≡_, sym}
 use Prim.Native.Nat.{_-_, _≤_, _<_}
 use native.Mathlib.Omega.{arith}

@@ -1,4 +1,4 @@
--- `cases::short_at` meets its contract: two bytes make a number of sixteen bits.
+-- `test_cases::short_at` meets its contract: two bytes make a number of sixteen bits.
 use Prim.Native.Nat.{ℕ, _<_}
 use mathlib.Core.Path.{sym, subst}
 use Rattle.catalogue.proofs.Words.{word-below}

@@ -1,4 +1,4 @@
--- `cases::say_digits`: it goes to the last byte.
+-- `test_cases::say_digits`: it goes to the last byte.
 use Prim.Native.Nat.{_-_, _≤_}
 use native.Mathlib.Omega.{arith}
 use lib.ListN.{length}

@@ -1,4 +1,4 @@
--- `cases::say_reply` meets its contract: it goes to the last entry.
+-- `test_cases::say_reply` meets its contract: it goes to the last entry.
 use Prim.Native.Nat.{_-_, _≤_}
 use lib.ListN.{length}
 use borrow.Author.Needs.{needs}
