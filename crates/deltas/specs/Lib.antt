@@ -1,1 +1,1 @@
-pub mod Revising
+pub mod Comparing
