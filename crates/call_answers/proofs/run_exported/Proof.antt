@@ -4,8 +4,8 @@ use Prim.Native.Nat.{ℕ}
 use lib.ListN.{replicate}
 use lib.Seq.{length-take-le, length-front}
 use borrow.Author.Needs.{needs}
-use Rattle.gate_edits.proofs.run_exported.Statement.{statement}
-use Rattle.gate_edits.proofs.run_exported.Tie as tie
+use Rattle.call_answers.proofs.run_exported.Statement.{statement}
+use Rattle.call_answers.proofs.run_exported.Tie as tie
 
 least-requires : tie.Need-least-requires
 least-requires c κs = search needs
