@@ -1,3 +1,3 @@
-pub mod AxiomTable
 pub mod Cleared
-pub mod Marking
+pub mod Marks
+pub mod OwnAxioms

@@ -1,28 +1,23 @@
 // The catalogue's axioms as a table of rows, by left side.
+use super::marking::mark_axioms;
 use bytes::copy;
-use catalogue::Axiom;
+use catalogue::header::axioms_at;
+use derivation::Mode;
 use layout::Shape;
 use row_steps::clear;
-use rows::put_in_row;
 ghost use mathlib.Core.Path.{_≡_};
 ghost use Prim.Native.Nat.{_≤_};
 ghost use lib.ListN.{length};
 ghost use Rattle.layout.specs.Layout.{Shaped, tableLength};
 ghost use Rattle.axiom_rows.specs.Putting.{MarksAxioms, PutsAxioms};
 
-// Marks each axiom of the catalogue.
-pub fn axiom_rows(b: &[u8], s: Shape, table: &mut [u8])
+// Marks each axiom of the catalogue: its last section is a list of them.
+fn axiom_rows(b: &[u8], s: Shape, table: &mut [u8])
     requires { ⌜ Shaped (now b) s × (length (now table) ≡ tableLength s) ⌝ }
     ensures { λ _. ⌜ MarksAxioms (now (b .entry)) s (now (table .entry)) (now (table .exit)) ⌝ }
 {
-    let w = s.width;
-    let count = catalogue::axioms(b);
-    let mut k = 0;
-    while k < count {
-        let axiom = Axiom::at(b, k);
-        put_in_row(table, w, axiom.left, axiom.right);
-        k += 1;
-    }
+    let from = axioms_at(b);
+    mark_axioms(Mode::Add, s, &b[from..], table);
 }
 
 // Marks each axiom of the catalogue in its own row of the store, whatever the axiom rows held, and copies them to a table.
