@@ -4,27 +4,23 @@ ghost use Rattle.replies.specs.Classify.{ClassifyExported};
 ghost use Rattle.replies.specs.Change.{ChangeExported};
 ghost use Rattle.replies.specs.Lookups.{LookupExported, ListExported, RowExported};
 ghost use Rattle.replies.specs.Write.{WriteExported};
+use replies::SHORT_ANSWER;
 use replies::change_reply;
 use replies::check_reply;
 use replies::classify_reply;
 use replies::give;
+use replies::is_short;
 use replies::list_reply;
 use replies::lookup_reply;
 use replies::row_reply;
 use replies::write_reply;
-
-// How many entries an answer has at least.
-pub const ENTRIES: usize = 4;
-
-// Returned where it has fewer.
-pub const SHORT_ANSWER: usize = 65535;
 
 // Check a catalogue, and say how many bytes its calls are to be lent.
 #[no_mangle]
 pub extern "C" fn girvotal_check(catalogue: &[u8], answer: &mut [u64]) -> usize
     ensures { λ r. ⌜ CheckExported (now (catalogue .entry)) (now (answer .entry)) r (now (answer .exit)) ⌝ }
 {
-    if answer.len() < ENTRIES {
+    if is_short(answer) {
         return SHORT_ANSWER;
     }
     let sizes = buffer_sizes::measure(catalogue);
@@ -41,7 +37,7 @@ pub extern "C" fn girvotal_classify(
 ) -> usize
     ensures { λ r. ⌜ ClassifyExported (now (catalogue .entry)) (now (store .entry)) (now (work .entry)) (now (answer .entry)) r (now (store .exit)) (now (work .exit)) (now (answer .exit)) ⌝ }
 {
-    if answer.len() < ENTRIES {
+    if is_short(answer) {
         return SHORT_ANSWER;
     }
     let classified = classification::classify(catalogue, store, work);
@@ -61,7 +57,7 @@ pub extern "C" fn girvotal_change(
 ) -> usize
     ensures { λ r. ⌜ ChangeExported (now (catalogue .entry)) (now (withdrawn .entry)) (now (added .entry)) (now (store .entry)) (now (work .entry)) (now (touched .entry)) (now (answer .entry)) r (now (store .exit)) (now (work .exit)) (now (touched .exit)) (now (answer .exit)) ⌝ }
 {
-    if answer.len() < ENTRIES {
+    if is_short(answer) {
         return SHORT_ANSWER;
     }
     let changed = change::change(catalogue, withdrawn, added, store, work, touched);
@@ -79,7 +75,7 @@ pub extern "C" fn girvotal_lookup(
 ) -> usize
     ensures { λ r. ⌜ LookupExported (now (catalogue .entry)) first second (now (store .entry)) (now (answer .entry)) r (now (answer .exit)) ⌝ }
 {
-    if answer.len() < ENTRIES {
+    if is_short(answer) {
         return SHORT_ANSWER;
     }
     let looked = lookups::lookup(catalogue, first, second, store);
@@ -97,7 +93,7 @@ pub extern "C" fn girvotal_list(
 ) -> usize
     ensures { λ r. ⌜ ListExported (now (catalogue .entry)) second (now (store .entry)) (now (list .entry)) (now (answer .entry)) r (now (list .exit)) (now (answer .exit)) ⌝ }
 {
-    if answer.len() < ENTRIES {
+    if is_short(answer) {
         return SHORT_ANSWER;
     }
     let listed = lookups::listing(catalogue, second, store, list);
@@ -114,7 +110,7 @@ pub extern "C" fn girvotal_row(
 ) -> usize
     ensures { λ r. ⌜ RowExported (now (catalogue .entry)) concept (now (store .entry)) (now (answer .entry)) r (now (answer .exit)) ⌝ }
 {
-    if answer.len() < ENTRIES {
+    if is_short(answer) {
         return SHORT_ANSWER;
     }
     let handed = row_parts::row_answer(catalogue, concept, store);
@@ -131,7 +127,7 @@ pub extern "C" fn girvotal_write(
 ) -> usize
     ensures { λ r. ⌜ WriteExported (now (catalogue .entry)) (now (store .entry)) (now (output .entry)) (now (answer .entry)) r (now (output .exit)) (now (answer .exit)) ⌝ }
 {
-    if answer.len() < ENTRIES {
+    if is_short(answer) {
         return SHORT_ANSWER;
     }
     let wrote = writing::write(catalogue, store, output);

@@ -1,6 +1,7 @@
 -- How an exported function answers: a number returned, and four entries of a list. One definition for every call.
 use Prim.Native.Nat.{ℕ, _+_, _*_, _≤_, _<_}
 use mathlib.Core.Path.{_≡_}
+use mathlib.Core.Bool.{Bool, true, false}
 use mathlib.Core.List.{List}
 use lib.ListN.{length, set}
 use Rattle.replies.specs.declared.Reply.{Reply}
@@ -24,6 +25,11 @@ entries (Refused number at) answer = answer
 pub record Given (reply : Reply) (answer : List ℕ) (r : ℕ) (answer' : List ℕ) : Type 0 where
   pub returns : r ≡ returned reply
   pub writes : answer' ≡ entries reply answer
+
+-- Whether an answer has fewer than four entries.
+pub record TellsShort (answer : List ℕ) (r : Bool) : Type 0 where
+  pub short : r ≡ true → length answer < 4
+  pub long : r ≡ false → 4 ≤ length answer
 
 -- Nothing is changed where the answer is too short.
 pub record TooShort {L : Type 0} (lent : L) (answer : List ℕ) (r : ℕ) (lent' : L) (answer' : List ℕ) : Type 0 where

@@ -2,7 +2,7 @@
 ghost use mathlib.Core.Path.{_≡_};
 ghost use Prim.Native.Nat.{_≤_, _<_, _^_};
 ghost use lib.ListN.{length};
-ghost use Rattle.replies.specs.Answers.{returned, answered, Given};
+ghost use Rattle.replies.specs.Answers.{returned, answered, TellsShort, Given};
 ghost use Rattle.replies.specs.Check.{checkReply};
 ghost use Rattle.replies.specs.Classify.{classifyReply};
 ghost use Rattle.replies.specs.Change.{changeReply};
@@ -15,6 +15,19 @@ use lookups::Listed;
 use lookups::Looked;
 use row_parts::Handed;
 use writing::Wrote;
+
+// How many entries an answer has at least.
+pub const ENTRIES: usize = 4;
+
+// Returned where one has fewer.
+pub const SHORT_ANSWER: usize = 65535;
+
+// Whether an answer has fewer.
+pub fn is_short(answer: &[u64]) -> bool
+    ensures { λ r. ⌜ TellsShort (now (answer .entry)) r ⌝ }
+{
+    answer.len() < ENTRIES
+}
 
 // What an exported call replies: the four entries, or the refusal's number and record.
 pub enum Reply {
