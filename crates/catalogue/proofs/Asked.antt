@@ -1,10 +1,9 @@
 -- Laws of questions asked in order, by induction over their list: accepted exactly if each is answered yes, refused by one of them with the first record at
 -- fault, and asked part by part.
 use Prim.Native.Nat.{ℕ, _<_}
-use native.Mathlib.Omega.{arith}
 use mathlib.Core.Path.{_≡_, refl, sym, ap, subst, _∙_}
 use mathlib.Core.Logic.{_⊎_, inl, inr, ⊎-elim}
-use mathlib.Core.Bool.{Bool, true, false}
+use mathlib.Core.Bool.{true, false}
 use mathlib.Core.List.{List, [], _∷_, _++_, List·Memᴰ, List·Memᴰ·head, List·Memᴰ·tail, List·Memᴰ·not-nil, List·Memᴰ·cases-cons}
 use Rattle.catalogue.specs.Outcome.{Outcome, accepted, refused, ask, askEach, followed, First}
 use Rattle.catalogue.specs.Questions.{countOf, Question, once, each, numberOf, askAll}

@@ -1,5 +1,5 @@
 -- What is asked of each axiom says what is asked of a list; and whole lists, alone and together.
-use Prim.Native.Nat.{ℕ, _+_, _≤_, _%_}
+use Prim.Native.Nat.{ℕ, _+_, _%_}
 use native.Mathlib.Omega.{arith}
 use mathlib.Core.Path.{_≡_, refl, sym, ap, _∙_}
 use mathlib.Core.Bool.{Bool, true, not}

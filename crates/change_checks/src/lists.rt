@@ -1,10 +1,9 @@
 // Axioms in lists of bytes, four for each.
 use catalogue::Axiom;
 use change_contract::axiom_at;
-ghost use Prim.Native.Nat.{_+_, _*_, _≤_, _<_};
+ghost use Prim.Native.Nat.{_≤_, _<_};
 ghost use mathlib.Core.Path.{_≡_};
 ghost use mathlib.Core.List.{_++_};
-ghost use lib.ListN.{length};
 ghost use Rattle.change_contract.specs.Lists.{axiomsIn, among, ReadAt};
 ghost use Rattle.change_checks.specs.Reading.{Whole};
 

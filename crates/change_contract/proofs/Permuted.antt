@@ -15,7 +15,6 @@ use Rattle.catalogue.specs.Words.{word, bytesOf}
 use Rattle.catalogue.specs.Header.{concepts}
 use Rattle.catalogue.specs.Outcome.{Outcome, accepted, ask}
 use Rattle.catalogue.specs.Checks.{catalogueChecks}
-use Rattle.derivation.specs.Finite.{each}
 use Rattle.derivation.specs.Decided.{Marked as Holding}
 use Rattle.rules.specs.Axioms.{Axioms}
 use Rattle.rules.specs.Changes.{NewSet}

@@ -3,15 +3,12 @@
 use Prim.Native.Nat.{ℕ, _≤_}
 use mathlib.Core.Path.{_≡_, refl, sym, ap, subst, _∙_}
 use mathlib.Core.Bool.{true}
-use mathlib.Core.Logic.{_↔_}
 use mathlib.Core.List.{List, [], _∷_, map, List·Memᴰ, List·Memᴰ·head, List·Memᴰ·tail}
 use lib.ListN.{length}
 use Rattle.catalogue.specs.Outcome.{accepted}
 use Rattle.catalogue.specs.Checks.{checked}
-use Rattle.catalogue.specs.WellFormed.{WellFormed}
 use Rattle.catalogue.proofs.Passed.{after-accepted}
-use Rattle.rules.specs.Axioms.{Axioms, InRange}
-use Rattle.store.specs.Fresh.{Fresh}
+use Rattle.rules.specs.Axioms.{Axioms}
 use Rattle.store.specs.Checks.{storeFits, workFits, listFits, axiomsInLimit, askStore, askWork, askList, askNumbers}
 use Rattle.store.specs.Written.{axiomCount, written, SameRecords}
 use Rattle.store.proofs.SameRules.{used-same, range-same, fresh-same, fresh-written}

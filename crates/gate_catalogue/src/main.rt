@@ -1,7 +1,7 @@
 // Reads catalogues, one to a line in hexadecimal digits, and writes for each what questions 1 to 9 answer.
 // The input: a right catalogue and its faulty variants, 19 bytes and none among them; a full one of 512 concepts and one of 513; two
 // faults of one question, and of two; the limits, with 4,096 axioms, and one concept without roles.
-ghost use Prim.Native.Nat.{_+_, _≤_, _<_};
+ghost use Prim.Native.Nat.{_≤_, _<_};
 ghost use lib.ListN.{length};
 use catalogue::Verdict;
 use libc::STDIN_FILENO;

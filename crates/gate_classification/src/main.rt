@@ -18,7 +18,6 @@ use test_cases::long_at;
 use test_cases::say;
 use test_cases::say_checksum;
 use test_cases::say_refused;
-use test_cases::short_at;
 
 // Writes the counts of pairs and links, and the checksum of the store's used part.
 fn say_classified(b: &[u8], pairs: usize, links: usize, store: &[u8])

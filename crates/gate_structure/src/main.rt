@@ -1,6 +1,6 @@
 // Builds catalogues and writes what contains what, what reaches what, and numbers read and copied by a reader. The first shares parts
 // so much that a recursion without marks would make over 2^350 calls; the others have role inclusions in a falling chain and in a cycle.
-ghost use Prim.Native.Nat.{_+_, _*_, _≤_, _<_};
+ghost use Prim.Native.Nat.{_+_, _≤_, _<_};
 ghost use lib.ListN.{length};
 use catalogue::Concept;
 use catalogue::Inclusion;

@@ -1,5 +1,5 @@
 -- What write promises (document 01, Questions, in order; Edits in a row: the catalogue with F as its axioms, count and total to match).
-use Prim.Native.Nat.{ℕ, _+_}
+use Prim.Native.Nat.{ℕ}
 use mathlib.Core.Path.{_≡_}
 use mathlib.Core.Bool.{Bool}
 use mathlib.Core.List.{List, _++_}

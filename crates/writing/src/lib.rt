@@ -7,12 +7,11 @@ use reader::copy_numbers;
 use reader::put_number;
 use rows::next_below;
 ghost use mathlib.Core.Path.{_≡_};
-ghost use mathlib.Core.List.{List};
-ghost use Prim.Native.Nat.{ℕ, _+_, _*_, _/_, _≤_, _<_};
+ghost use Prim.Native.Nat.{_+_, _<_};
 ghost use lib.ListN.{length};
 ghost use Rattle.catalogue.specs.WellFormed.{WellFormed};
-ghost use Rattle.layout.specs.Parts.{Clear, inForce};
-ghost use Rattle.store.specs.Written.{axiomCount, setWord, written};
+ghost use Rattle.layout.specs.Parts.{inForce};
+ghost use Rattle.store.specs.Written.{setWord, written};
 ghost use Rattle.writing.specs.Records.{RowFits, WritesRow, TableFits, WritesTable, CatalogueFits};
 ghost use Rattle.writing.specs.Write.{Writes, WritesChecked};
 

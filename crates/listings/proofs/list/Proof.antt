@@ -5,12 +5,6 @@ use Rattle.listings.specs.declared.Listing.the-variants.{Text}
 use Rattle.listings.specs.Program.{listed}
 use Rattle.listings.proofs.list.Statement.{statement}
 use Rattle.listings.proofs.list.Tie as tie
-use Rattle.listings.proofs.list.Reads as reads
-use Rattle.listings.proofs.list.Lts as lts
-use Rattle.io.proofs.large_buffer.Reads as large-buffer-reads
-use Rattle.io.proofs.write_all.Reads as write-all-reads
-use Rattle.listings.proofs.program_text.Reads as program-text-reads
-use Rattle.listings.proofs.text_buffer.Reads as text-buffer-reads
 
 large-buffer-requires : tie.Need-large-buffer-requires
 large-buffer-requires c κs = search needs

@@ -3,13 +3,6 @@ use borrow.Author.Needs.{needs}
 use Rattle.listings.specs.Program.{unread}
 use Rattle.listings.proofs.run.Statement.{statement}
 use Rattle.listings.proofs.run.Tie as tie
-use Rattle.listings.proofs.run.Reads as reads
-use Rattle.listings.proofs.run.Lts as lts
-use Rattle.io.proofs.large_buffer.Reads as large-buffer-reads
-use Rattle.io.proofs.read_full.Reads as read-full-reads
-use Rattle.io.proofs.write_all.Reads as write-all-reads
-use Rattle.listings.proofs.input_ended.Reads as input-ended-reads
-use Rattle.listings.proofs.list.Reads as list-reads
 
 large-buffer-requires : tie.Need-large-buffer-requires
 large-buffer-requires c κs = search needs

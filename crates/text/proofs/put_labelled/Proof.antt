@@ -1,7 +1,6 @@
 -- `put_labelled` meets its contract.
 use native.Mathlib.Omega.{arith}
-use mathlib.Core.Path.{ap}
-use lib.ListN.{length, length-append}
+use lib.ListN.{length-append}
 use Rattle.text.specs.Text.{decimal}
 use Rattle.text.proofs.Appending.{appended-more}
 use borrow.Author.Needs.{needs}

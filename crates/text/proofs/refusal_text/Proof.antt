@@ -1,7 +1,5 @@
 -- `refusal_text` meets its contract.
 use native.Mathlib.Omega.{arith}
-use mathlib.Core.Path.{ap}
-use lib.ListN.{length}
 use Rattle.text.specs.Text.{refusal, newline}
 use Rattle.text.proofs.Appending.{appended-more}
 use Rattle.text.proofs.Decimals.{length-decimal-word}

@@ -3,9 +3,6 @@ use Rattle.store.specs.Written.{setWord}
 use borrow.Author.Needs.{needs}
 use Rattle.writing.proofs.put_axiom.Statement.{statement}
 use Rattle.writing.proofs.put_axiom.Tie as tie
-use Rattle.writing.proofs.put_axiom.Reads as reads
-use Rattle.writing.proofs.put_axiom.Lts as lts
-use Rattle.reader.proofs.put_number.Reads as put-number-reads
 
 put-number-requires : tie.Need-put-number-requires
 put-number-requires c κs = search needs

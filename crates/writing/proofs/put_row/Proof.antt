@@ -1,9 +1,6 @@
 -- `writing::put_row` meets its contract: before each turn the records of the right sides passed are written.
-use borrow.Author.Needs.{needs}
-use Prim.Native.Nat.{ℕ, _+_, _-_}
+use Prim.Native.Nat.{_-_}
 use native.Mathlib.Omega.{arith}
-use mathlib.Core.Path.{_∙_, ap}
-use lib.ListN.{length}
 use Rattle.writing.proofs.Recording.{RowState, row-begins, row-goes-on, row-room, row-ends}
 use Rattle.writing.proofs.put_row.Statement.{statement}
 use Rattle.writing.proofs.put_row.Tie as tie

@@ -1,6 +1,6 @@
 -- `writing::put_table` meets its contract: before each turn the records of the left sides passed are written.
 use borrow.Author.Needs.{needs}
-use Prim.Native.Nat.{ℕ, _+_, _-_, _*_}
+use Prim.Native.Nat.{_-_}
 use native.Mathlib.Omega.{arith}
 use Rattle.rows.proofs.Places.{row-within}
 use Rattle.writing.proofs.Tabling.{TableState, table-begins, row-fits, table-goes-on, table-ends}

@@ -1,6 +1,5 @@
 -- `writing::write` meets its contract: questions 1 to 9, and then the others.
-use mathlib.Core.Path.{_≡_, sym, ap, _∙_}
-use Rattle.catalogue.specs.Outcome.{accepted, refused}
+use mathlib.Core.Path.{sym, ap, _∙_}
 use Rattle.catalogue.specs.Verdicts.{outcomeOf}
 use Rattle.catalogue.proofs.Accepted.{accepted-well-formed}
 use Rattle.writing.proofs.Order.{catalogue-first, catalogue-refused}

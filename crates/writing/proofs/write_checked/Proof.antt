@@ -5,7 +5,7 @@ use mathlib.Core.List.{List, _++_}
 use Prim.Native.Nat.{ℕ, _+_, _*_, _≤_, _<_}
 use native.Mathlib.Omega.{arith}
 use borrow.Author.Tests.{not-true, not-false, leb-true, le-leb, lt-leb}
-use lib.ListN.{length, take, drop}
+use lib.ListN.{length, drop}
 use lib.Seq.{length-take-le}
 use Rattle.catalogue.specs.Header.{axiomsAt}
 use Rattle.catalogue.specs.WellFormed.{WellFormed}
@@ -13,9 +13,7 @@ use Rattle.layout.specs.Parts.{Sized, Clear, used, inForce, spareClear}
 use Rattle.store.specs.Checks.{storeFits, axiomsInLimit}
 use Rattle.store.specs.Written.{axiomCount, written}
 use Rattle.store.proofs.Written.{length-written}
-use Rattle.layout.proofs.StoreRows.{in-force-range}
 use Rattle.writing.specs.Write.{outputFits}
-use Rattle.writing.specs.Records.{CatalogueFits}
 use Rattle.writing.proofs.Order.{stops-10, stops-13, stops-14, stops-20, writes-all}
 use borrow.Author.Needs.{needs}
 use Rattle.writing.proofs.write_checked.Statement.{statement}

@@ -1,10 +1,9 @@
 -- `check_records` asks the three parts of the list one after the other.
 use borrow.Author.Needs.{needs}
 use mathlib.Core.Path.{sym, ap, _∙_}
-use mathlib.Core.List.{_++_}
 use Rattle.catalogue.specs.Outcome.{accepted}
 use Rattle.catalogue.specs.Verdicts.{outcomeOf}
-use Rattle.catalogue.specs.Checks.{conceptQuestions, roleQuestions, axiomQuestions, recordQuestions}
+use Rattle.catalogue.specs.Checks.{conceptQuestions, roleQuestions, recordQuestions}
 use Rattle.catalogue.proofs.Asked.{part-yes, part-no}
 use Rattle.catalogue.proofs.checks.check_records.Statement.{statement}
 use Rattle.catalogue.proofs.checks.check_records.Tie as tie

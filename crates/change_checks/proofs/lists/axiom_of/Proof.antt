@@ -8,9 +8,6 @@ use Rattle.change_contract.proofs.Lists.{axioms-together, left-first, right-fir
 use borrow.Author.Needs.{needs}
 use Rattle.change_checks.proofs.lists.axiom_of.Statement.{statement}
 use Rattle.change_checks.proofs.lists.axiom_of.Tie as tie
-use Rattle.change_checks.proofs.lists.axiom_of.Reads as reads
-use Rattle.change_checks.proofs.lists.axiom_of.Lts as lts
-use Rattle.change_contract.proofs.axiom_at.Reads as axiom-at-reads
 
 axiom-at-requires : tie.Need-axiom-at-requires
 axiom-at-requires c κs = search needs

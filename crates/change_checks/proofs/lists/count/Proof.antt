@@ -5,8 +5,6 @@ use Rattle.change_contract.proofs.Lists.{axioms-together}
 use borrow.Author.Needs.{needs}
 use Rattle.change_checks.proofs.lists.count.Statement.{statement}
 use Rattle.change_checks.proofs.lists.count.Tie as tie
-use Rattle.change_checks.proofs.lists.count.Reads as reads
-use Rattle.change_checks.proofs.lists.count.Lts as lts
 
 add-result : tie.Need-add-result
 add-result c = search needs

@@ -3,7 +3,6 @@ use Prim.Native.Nat.{ℕ}
 use native.Mathlib.Omega.{arith}
 use mathlib.Core.Path.{ap₂, subst}
 use mathlib.Core.List.{List, _++_}
-use lib.ListN.{length}
 use denote.Ref.{now}
 use Rattle.layout.specs.Parts.{held}
 use Rattle.text.specs.Text.{Appended, summary}
