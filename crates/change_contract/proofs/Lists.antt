@@ -6,8 +6,7 @@ use mathlib.Core.Logic.{_↔_, _⊎_, inl, inr, ⊎-elim}
 use mathlib.Core.Bool.{Bool, true, false, not, _&&_, _||_, and-assoc, and-true, or-false}
 use mathlib.Core.List.{List, [], _∷_, _++_}
 use lib.Dec.{eqb, ltb, leb}
-use lib.ListN.{length, getD, length-append, List·getD-append}
-use lib.Seq.{getD-append-add}
+use lib.ListN.{length, length-append}
 use borrow.Author.Tests.{eq-eqb, eqb-true, leb-true, ltb-true, not-true, not-false}
 use Rattle.booleans.proofs.Booleans.{both, either, negated, not-both, not-true-false, and-left, and-right, and-both}
 use Rattle.rows.specs.Bits.{someBelow}
@@ -19,6 +18,7 @@ use Rattle.rules.specs.Axioms.{Axioms, InRange, added, withdrawn}
 use Rattle.store.specs.Written.{axiomCount}
 use Rattle.store.specs.Checks.{numbersBelow}
 use Rattle.store.proofs.Checks.{every-two}
+use Rattle.store.proofs.Records.{word-first, word-second}
 use Rattle.store.proofs.AxiomCounts.{added-count, withdrawn-count}
 use Rattle.change_contract.specs.Lists.{axiomsIn, leftIn, rightIn, among, listed, sidesBelow, sidesIn, edited}
 use Rattle.change_contract.specs.Questions.{isWhole, repeats, noneTwice, allInForce, noneInForce}
@@ -62,32 +62,21 @@ module _ (withdrawn added : List ℕ) (whole : length withdrawn % 4 ≡ 0) where
   unfolding axiomsIn
   axioms-together = omega (arith, length-append withdrawn added)
 
-  word-first : (i : ℕ) → i + 1 < length withdrawn → word (withdrawn ++ added) i ≡ word withdrawn i
-  unfolding word
-  word-first i l =
-      ap₂ (λ (x y : ℕ). x + 256 * y) (List·getD-append withdrawn added 0 i (omega arith)) (List·getD-append withdrawn added 0 (i + 1) l)
-
-  word-second : (i : ℕ) → word (withdrawn ++ added) (length withdrawn + i) ≡ word added i
-  unfolding word
-  word-second i =
-      ap₂ (λ (x y : ℕ). x + 256 * y) (getD-append-add withdrawn added i 0)
-      (ap (λ (k : ℕ). getD (withdrawn ++ added) k 0) (let z : length withdrawn + i + 1 ≡ length withdrawn + (i + 1) = omega arith in z) ∙ getD-append-add withdrawn added (i + 1) 0)
-
   pub left-first : (k : ℕ) → k < axiomsIn withdrawn → leftIn (withdrawn ++ added) k ≡ leftIn withdrawn k
   unfolding axiomsIn leftIn
-  left-first k l = word-first (4 * k) (omega arith)
+  left-first k l = word-first withdrawn added (4 * k) (omega arith)
 
   pub right-first : (k : ℕ) → k < axiomsIn withdrawn → rightIn (withdrawn ++ added) k ≡ rightIn withdrawn k
   unfolding axiomsIn rightIn
-  right-first k l = word-first (4 * k + 2) (omega arith)
+  right-first k l = word-first withdrawn added (4 * k + 2) (omega arith)
 
   pub left-second : (k : ℕ) → leftIn (withdrawn ++ added) (axiomsIn withdrawn + k) ≡ leftIn added k
   unfolding axiomsIn leftIn
-  left-second k = ap (word (withdrawn ++ added)) (let z : 4 * (length withdrawn / 4 + k) ≡ length withdrawn + 4 * k = omega arith in z) ∙ word-second (4 * k)
+  left-second k = ap (word (withdrawn ++ added)) (let z : 4 * (length withdrawn / 4 + k) ≡ length withdrawn + 4 * k = omega arith in z) ∙ word-second withdrawn added (length withdrawn) (4 * k) refl
 
   pub right-second : (k : ℕ) → rightIn (withdrawn ++ added) (axiomsIn withdrawn + k) ≡ rightIn added k
   unfolding axiomsIn rightIn
-  right-second k = ap (word (withdrawn ++ added)) (let z : 4 * (length withdrawn / 4 + k) + 2 ≡ length withdrawn + (4 * k + 2) = omega arith in z) ∙ word-second (4 * k + 2)
+  right-second k = ap (word (withdrawn ++ added)) (let z : 4 * (length withdrawn / 4 + k) + 2 ≡ length withdrawn + (4 * k + 2) = omega arith in z) ∙ word-second withdrawn added (length withdrawn) (4 * k + 2) refl
 
 -- A list stands in another from place p on.
 record Part (list all : List ℕ) (p : ℕ) : Type 0 where
