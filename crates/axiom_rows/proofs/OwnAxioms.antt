@@ -5,13 +5,14 @@ use mathlib.Core.Path.{_≡_, sym, ap, ap₂, subst, _∙_}
 use mathlib.Core.Bool.{Bool, _&&_, _||_}
 use mathlib.Core.List.{List}
 use lib.Dec.{eqb}
-use lib.ListN.{length, getD, drop, length-drop}
-use lib.Seq.{getD-drop, take-all}
+use lib.ListN.{length, drop, length-drop}
+use lib.Seq.{take-all}
 use borrow.Rule.Slice.PartMut.{midOf}
 use Rattle.catalogue.specs.Words.{word}
 use Rattle.catalogue.specs.Header.{concepts, axioms, axiomsAt}
 use Rattle.catalogue.specs.Records.{left, right}
 use Rattle.catalogue.specs.WellFormed.{WellFormed}
+use Rattle.catalogue.proofs.Words.{word-drop}
 use Rattle.rows.specs.Bits.{someBelow}
 use Rattle.rows.proofs.Counting.{some-ext}
 use Rattle.rules.specs.Axioms.{catalogueAxioms}
@@ -21,12 +22,6 @@ use Rattle.layout.specs.Layout.{shapeOf, table, tableLength}
 use Rattle.change_contract.specs.Lists.{axiomsIn, leftIn, rightIn, among, listed}
 use Rattle.axiom_rows.specs.Marking.{withList, ListInTable, MarksList}
 use Rattle.axiom_rows.specs.Putting.{MarksAxioms}
-
-word-drop : (k : ℕ) (b : List ℕ) (i : ℕ) → word (drop k b) i ≡ word b (k + i)
-unfolding word
-word-drop k b i =
-    let next : k + (i + 1) ≡ k + i + 1 = omega arith in
-    ap₂ (λ (x y : ℕ). x + 256 * y) (getD-drop k b i 0) (getD-drop k b (i + 1) 0 ∙ ap (λ (j : ℕ). getD b j 0) next)
 
 own-left : (b : List ℕ) (k : ℕ) → leftIn (drop (axiomsAt b) b) k ≡ left b k
 unfolding leftIn left
