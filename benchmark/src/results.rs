@@ -16,6 +16,8 @@ pub struct Budgets {
     pub change: Budget,
     /// Of whole processes, on one catalogue.
     pub processes: Budget,
+    /// How many averages there are of a call that reads a store.
+    pub reading: usize,
 }
 
 impl Budgets {
@@ -36,6 +38,7 @@ impl Budgets {
             least: 7,
             most: 31,
         },
+        reading: 40,
     };
 
     /// For a look.
@@ -55,6 +58,7 @@ impl Budgets {
             least: 3,
             most: 5,
         },
+        reading: 10,
     };
 }
 
@@ -80,7 +84,7 @@ pub fn costs(named: &Named, budgets: Budgets) -> Costs {
         lent: sizes.store + sizes.work + sizes.list,
         classify: classify::time(name, bytes, budgets.classify),
         change: edits::time_one_axiom(name, &catalogue, budgets.change),
-        reading: reading::time(bytes),
+        reading: reading::time(bytes, classify::site(bytes).store(), budgets.reading),
     }
 }
 

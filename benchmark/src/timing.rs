@@ -71,9 +71,8 @@ pub fn in_turn(budget: Budget, calls: usize, mut make: impl FnMut(usize)) -> Vec
 }
 
 /// Nanoseconds of each of some short calls: averages of many calls in half a
-/// millisecond, of 100 rounds, all calls in turn.
-pub fn nanoseconds(calls: usize, mut make: impl FnMut(usize)) -> Vec<Vec<f64>> {
-    const ROUNDS: usize = 100;
+/// millisecond, in so many rounds, all calls in turn.
+pub fn nanoseconds(rounds: usize, calls: usize, mut make: impl FnMut(usize)) -> Vec<Vec<f64>> {
     const AVERAGED: Budget = Budget {
         milliseconds: 0.5,
         least: 5,
@@ -88,8 +87,8 @@ pub fn nanoseconds(calls: usize, mut make: impl FnMut(usize)) -> Vec<Vec<f64>> {
         .collect();
     let rounds = Budget {
         milliseconds: 0.0,
-        least: ROUNDS,
-        most: ROUNDS,
+        least: rounds,
+        most: rounds,
     };
     let times = in_turn(rounds, calls, |call| {
         (0..averaged[call]).for_each(|_| make(call));

@@ -58,7 +58,7 @@ fn documents() {
 fn squares(axioms: [usize; 2]) -> Measured {
     let costs = [(64, axioms[0]), (128, axioms[1])].map(|(concepts, axioms)| {
         let sample = Sample::of(vec![(concepts * concepts) as f64]);
-        let reading = || reading::Cost {
+        let reading = reading::Cost {
             library: sample,
             plain: sample,
         };
@@ -77,9 +77,12 @@ fn squares(axioms: [usize; 2]) -> Measured {
                 axioms,
             },
             reading: reading::Costs {
-                composites: reading(),
-                kinds: reading(),
-                list: reading(),
+                composites: reading,
+                kinds: reading,
+                list: reading,
+                row: reading,
+                write: reading,
+                check: reading,
             },
         }
     });

@@ -76,6 +76,15 @@ fn compare_reading(name: &str, bytes: &[u8], site: &mut Site) {
     assert!(output == bytes, "{name}: written");
 }
 
+/// Compares the check of a catalogue, and of its bytes without the first.
+fn compare_check(name: &str, bytes: &[u8]) {
+    for bytes in [bytes, &bytes[1..]] {
+        let checked = girvotal::Catalogue::new(bytes).map_err(refusal);
+        let store = checked.map(|catalogue| catalogue.sizes().store);
+        assert_eq!(reading::check(bytes), store, "{name}");
+    }
+}
+
 #[test]
 fn the_built_in_catalogues() {
     for (name, make) in examples::EXAMPLES {
@@ -83,6 +92,7 @@ fn the_built_in_catalogues() {
         let bytes = catalogue.bytes();
         let mut site = compare_classify(name, &bytes);
         compare_reading(name, &bytes, &mut site);
+        compare_check(name, &bytes);
     }
 }
 

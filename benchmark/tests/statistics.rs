@@ -64,7 +64,7 @@ fn turns() {
     assert_eq!(made, [0, 1, 2].repeat(5));
     assert_eq!(times.iter().map(Vec::len).collect::<Vec<_>>(), [4, 4, 4]);
     let mut count = 0;
-    let short = nanoseconds(1, |_| count += 1);
+    let short = nanoseconds(100, 1, |_| count += 1);
     assert_eq!(short[0].len(), 100);
     assert!(count > 500 && short[0].iter().all(|&time| time > 0.0));
 }

@@ -35,10 +35,7 @@ pub const SIDES: [(Side, &str, &str); 3] = [
 /// Classifies once.
 pub fn once(side: Side, bytes: &[u8]) {
     match side {
-        Side::Library => {
-            let site = Site::classify(bytes.to_vec());
-            black_box(site.expect("an accepted catalogue"));
-        }
+        Side::Library => drop(black_box(site(bytes))),
         Side::Sweeping => drop(black_box(plain::classify(bytes))),
         Side::Indexed => drop(black_box(indexed::classify(bytes))),
     }
@@ -62,9 +59,14 @@ impl Cost {
     }
 }
 
+/// A catalogue, classified by the library.
+pub fn site(bytes: &[u8]) -> Site {
+    Site::classify(bytes.to_vec()).expect("an accepted catalogue")
+}
+
 /// Times all sides in turn, after comparing what they leave.
 pub fn time(name: &str, bytes: &[u8], budget: Budget) -> Cost {
-    let mut site = Site::classify(bytes.to_vec()).expect("an accepted catalogue");
+    let mut site = site(bytes);
     let (expected, counts) = plain::classify(bytes);
     assert!(site.store() == expected, "{name}: the same store");
     assert!(
@@ -75,17 +77,12 @@ pub fn time(name: &str, bytes: &[u8], budget: Budget) -> Cost {
         Side::Library => drop(black_box(site.reclassify().expect("accepted"))),
         side => once(side, bytes),
     });
-    let [library, sweeping, indexed] = samples(times);
+    let samples: Vec<Sample> = times.into_iter().map(Sample::of).collect();
+    let [library, sweeping, indexed] = samples.try_into().expect("all sides");
     Cost {
         counts,
         library,
         sweeping,
         indexed,
     }
-}
-
-/// The samples of some calls.
-pub(super) fn samples<const N: usize>(times: Vec<Vec<f64>>) -> [Sample; N] {
-    let samples: Vec<Sample> = times.into_iter().map(Sample::of).collect();
-    samples.try_into().expect("as many as there are calls")
 }

@@ -1,6 +1,7 @@
 //! What changes cost, beside classify. Every store that is left is compared with
 //! one that is classified from the axioms then in force.
 
+use super::classify;
 use crate::statistics::Sample;
 use crate::timing::{self, Budget, milliseconds};
 use girvotal::{Concept, Site};
@@ -127,7 +128,7 @@ impl Axioms {
 
 /// A catalogue, classified.
 pub fn classified(catalogue: &Catalogue) -> Site {
-    Site::classify(catalogue.bytes()).expect("an accepted catalogue")
+    classify::site(&catalogue.bytes())
 }
 
 /// Makes the changes of an edit; the milliseconds that they took.

@@ -1,11 +1,10 @@
 //! What the calls that read a store cost, the library's and plain Rust's with the
 //! same questions.
 
-use super::classify::samples;
 use crate::plain::reading as plain;
 use crate::statistics::Sample;
 use crate::timing;
-use girvotal::{Site, exported};
+use girvotal::exported;
 use reference::catalogue::{Catalogue, Concept};
 use std::hint::black_box;
 
@@ -24,6 +23,7 @@ pub enum Call {
     List(usize),
     Row(usize),
     Write,
+    Check,
 }
 
 /// A call on a store, and the question that it stops at, if any.
@@ -49,6 +49,7 @@ pub fn make(side: Side, call: Call, catalogue: &[u8], store: &[u8], buffer: &mut
             Call::List(second) => exported::list(catalogue, second, store, buffer, answer),
             Call::Row(concept) => exported::row(catalogue, concept, store, answer),
             Call::Write => exported::write(catalogue, store, buffer, answer),
+            Call::Check => exported::check(catalogue, answer),
         };
         black_box(answer);
         return returned % 65_536;
@@ -59,6 +60,7 @@ pub fn make(side: Side, call: Call, catalogue: &[u8], store: &[u8], buffer: &mut
         (_, Call::List(d)) => plain::listing(catalogue, d, store, buffer),
         (_, Call::Row(c)) => plain::row(catalogue, c, store).map(|(offset, _)| offset),
         (_, Call::Write) => plain::write(catalogue, store, buffer),
+        (_, Call::Check) => plain::check(catalogue),
     };
     black_box(result).map_or_else(|refusal| refusal.number, |_| 0)
 }
@@ -66,12 +68,6 @@ pub fn make(side: Side, call: Call, catalogue: &[u8], store: &[u8], buffer: &mut
 /// Space for a listing or for a written catalogue.
 pub fn buffer(catalogue: &[u8]) -> Vec<u8> {
     vec![0; catalogue.len().max(1024)]
-}
-
-/// A catalogue's store.
-pub fn classified(bytes: &[u8]) -> Vec<u8> {
-    let site = Site::classify(bytes.to_vec()).expect("an accepted catalogue");
-    site.store().to_vec()
 }
 
 /// The first atomic record, and the first composite on a side of an axiom, if any,
@@ -94,61 +90,71 @@ const KINDS: &str = "accepted, kinds";
 
 /// The accepted calls on a catalogue's store: lookups of a composite and of a kind,
 /// the others of a kind.
-pub fn accepted(bytes: &[u8]) -> [Case; 5] {
+pub fn accepted(bytes: &[u8], store: &[u8]) -> [Case; 6] {
     let catalogue = Catalogue::read(bytes).expect("an accepted catalogue");
-    let (store, [kind, composite]) = (classified(bytes), kind_and_composite(&catalogue));
+    let [kind, composite] = kind_and_composite(&catalogue);
     let calls = [
         (COMPOSITES, Call::Lookup(composite, composite)),
         (KINDS, Call::Lookup(kind, kind)),
         ("list", Call::List(kind)),
         ("row", Call::Row(kind)),
         ("write", Call::Write),
+        ("check", Call::Check),
     ];
     calls.map(|(name, call)| Case {
         name,
         call,
-        store: store.clone(),
+        store: store.to_vec(),
         stops_at: 0,
     })
 }
 
-/// Nanoseconds of each call.
-pub fn nanoseconds(runs: &[Run], catalogue: &[u8]) -> Vec<Vec<f64>> {
+/// Nanoseconds of each call, in so many rounds.
+pub fn nanoseconds(rounds: usize, runs: &[Run], catalogue: &[u8]) -> Vec<Sample> {
     let mut buffer = buffer(catalogue);
-    timing::nanoseconds(runs.len(), |i| {
+    let times = timing::nanoseconds(rounds, runs.len(), |i| {
         let Run(side, case) = runs[i];
         let (catalogue, store) = (black_box(catalogue), black_box(&case.store[..]));
         let call = black_box(case.call);
         black_box(make(side, call, catalogue, store, &mut buffer));
-    })
+    });
+    times.into_iter().map(Sample::of).collect()
 }
 
 /// Nanoseconds of a call, the library's and plain Rust's.
+#[derive(Clone, Copy)]
 pub struct Cost {
     pub library: Sample,
     pub plain: Sample,
 }
 
-/// Nanoseconds of lookups and of a listing.
+/// Nanoseconds of the accepted calls.
 pub struct Costs {
     pub composites: Cost,
     pub kinds: Cost,
     pub list: Cost,
+    pub row: Cost,
+    pub write: Cost,
+    pub check: Cost,
 }
 
-/// Times lookups and a listing.
-pub fn time(bytes: &[u8]) -> Costs {
-    let [composites, kinds, list, ..] = &accepted(bytes);
+/// Times the accepted calls on a catalogue's store.
+pub fn time(bytes: &[u8], store: &[u8], rounds: usize) -> Costs {
+    let cases = accepted(bytes, store);
     let both = |case| [Run(Side::Library, case), Run(Side::Plain, case)];
-    let runs = [composites, kinds, list].map(both);
-    let samples: [Sample; 6] = samples(nanoseconds(runs.as_flattened(), bytes));
+    let runs: Vec<Run> = cases.iter().flat_map(both).collect();
+    let samples = nanoseconds(rounds, &runs, bytes);
     let cost = |i: usize| Cost {
         library: samples[2 * i],
         plain: samples[2 * i + 1],
     };
+    let [composites, kinds, list, row, write, check] = std::array::from_fn(cost);
     Costs {
-        composites: cost(0),
-        kinds: cost(1),
-        list: cost(2),
+        composites,
+        kinds,
+        list,
+        row,
+        write,
+        check,
     }
 }

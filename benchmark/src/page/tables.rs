@@ -97,6 +97,7 @@ fn reading(families: &[Measured]) -> String {
             composites,
             kinds,
             list,
+            ..
         } = &costs.reading;
         [kinds, composites, list].map(cells).concat()
     })
@@ -110,6 +111,7 @@ fn reading_spread(families: &[Measured]) -> f64 {
             composites,
             kinds,
             list,
+            ..
         } = &costs.reading;
         [composites, kinds, list].map(|cost| cost.library.spread())
     });

@@ -52,6 +52,13 @@ struct Shape {
     axioms_at: usize,
 }
 
+impl Shape {
+    /// The bytes of a store.
+    fn used(&self) -> usize {
+        self.n * self.width * (self.m + 2)
+    }
+}
+
 /// Refuses by `number` at the first of a section's records that is not right.
 fn require_records<const N: usize>(
     number: usize,
@@ -66,7 +73,7 @@ fn require_records<const N: usize>(
 }
 
 /// Questions 1 to 9.
-fn check(bytes: &[u8]) -> Result<Shape, Refusal> {
+fn shape(bytes: &[u8]) -> Result<Shape, Refusal> {
     require(1, bytes.len() >= HEADER_LENGTH)?;
     let field = |i: usize| word(bytes, 2 * i);
     let (total, n, m, h, k, a) = (field(0), field(1), field(2), field(3), field(4), field(5));
@@ -120,17 +127,16 @@ fn check(bytes: &[u8]) -> Result<Shape, Refusal> {
 
 /// Questions 1 to 10.
 fn open(catalogue: &[u8], store: &[u8]) -> Result<Shape, Refusal> {
-    let shape = check(catalogue)?;
-    let used = shape.n * shape.width * (shape.m + 2);
-    require(10, store.len() >= used)?;
+    let shape = shape(catalogue)?;
+    require(10, store.len() >= shape.used())?;
     Ok(shape)
 }
 
 /// Questions 13 and 14; how many axioms are in force.
 fn count_axioms(shape: Shape, store: &[u8]) -> Result<usize, Refusal> {
-    let Shape { n, m, width, .. } = shape;
+    let Shape { n, width, .. } = shape;
     let spare = n % 8;
-    let mut rows = store[..n * width * (m + 2)].chunks_exact(width);
+    let mut rows = store[..shape.used()].chunks_exact(width);
     require(
         13,
         spare == 0 || rows.all(|row| row[width - 1] >> spare == 0),
@@ -195,6 +201,12 @@ fn pair(n: usize, width: usize, c: usize, d: usize, store: &[u8]) -> bool {
 pub fn bit(catalogue: &[u8], c: usize, d: usize, store: &[u8]) -> bool {
     let n = word(catalogue, 2);
     pair(n, n.div_ceil(8), c, d, store)
+}
+
+/// Asks questions 1 to 9; the bytes of a store.
+#[inline(never)]
+pub fn check(catalogue: &[u8]) -> Result<usize, Refusal> {
+    shape(catalogue).map(|shape| shape.used())
 }
 
 /// Whether the store has C ⊑ D.

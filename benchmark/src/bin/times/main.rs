@@ -17,6 +17,9 @@ mod rows;
 
 use std::process::ExitCode;
 
+/// How many averages there are of a short call.
+const ROUNDS: usize = 100;
+
 fn main() -> ExitCode {
     let arguments: Vec<String> = std::env::args().skip(1).collect();
     let words: Vec<&str> = arguments.iter().map(String::as_str).collect();

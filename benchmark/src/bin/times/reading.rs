@@ -3,9 +3,9 @@
 
 use super::counting;
 use benchmark::catalogues::{self, Named};
+use benchmark::measures::classify;
 use benchmark::measures::reading::{self, COMPOSITES, Call, Case, Run, Side, buffer, make};
 use benchmark::scratch::Scratch;
-use benchmark::statistics::Sample;
 use reference::catalogue::{Catalogue, MAX_AXIOMS};
 use reference::store::Layout;
 use std::hint::black_box;
@@ -20,6 +20,7 @@ fn words(call: Call) -> [String; 3] {
         Call::List(second) => ("list", second, 0),
         Call::Row(concept) => ("row", concept, 0),
         Call::Write => ("write", 0, 0),
+        Call::Check => ("check", 0, 0),
     };
     [name.to_string(), first.to_string(), second.to_string()]
 }
@@ -30,7 +31,8 @@ fn from_words(name: &str, first: &str, second: &str) -> Call {
         "lookup" => Call::Lookup(number(first), number(second)),
         "list" => Call::List(number(first)),
         "row" => Call::Row(number(first)),
-        _ => Call::Write,
+        "write" => Call::Write,
+        _ => Call::Check,
     }
 }
 
@@ -39,7 +41,7 @@ fn from_words(name: &str, first: &str, second: &str) -> Call {
 fn cases(bytes: &[u8]) -> Vec<Case> {
     let catalogue = Catalogue::read(bytes).expect("an accepted catalogue");
     let (n, width) = (catalogue.concepts.len(), Layout::new(&catalogue).width());
-    let store = reading::classified(bytes);
+    let store = classify::site(bytes).store().to_vec();
     let [_, c] = reading::kind_and_composite(&catalogue);
     let used = store.len();
     let lookup = |name, stops_at, change: &dyn Fn(&mut Vec<u8>)| {
@@ -78,17 +80,14 @@ fn cases(bytes: &[u8]) -> Vec<Case> {
         before.chunks_exact_mut(width).for_each(clear);
         last.fill(0);
     }));
-    cases.extend(reading::accepted(bytes));
+    cases.extend(reading::accepted(bytes, &store));
     cases
 }
 
 /// Nanoseconds of each call, the least of the averages.
 fn nanoseconds(runs: &[Run], catalogue: &[u8]) -> Vec<f64> {
-    let times = reading::nanoseconds(runs, catalogue);
-    times
-        .into_iter()
-        .map(|times| Sample::of(times).least)
-        .collect()
+    let samples = reading::nanoseconds(super::ROUNDS, runs, catalogue);
+    samples.iter().map(|sample| sample.least).collect()
 }
 
 /// Instructions of a call.

@@ -90,7 +90,7 @@ fn runs() -> Vec<(usize, usize, usize)> {
 pub fn times() {
     table("nanoseconds, least of 100 averages", || {
         let runs = runs();
-        let times = timing::nanoseconds(runs.len(), |i| {
+        let times = timing::nanoseconds(super::ROUNDS, runs.len(), |i| {
             let (row, task, way) = runs[i];
             let row = black_box(&ROWS[row].1);
             black_box(run(TASKS[task].0, WAYS[way], row));
