@@ -1,9 +1,9 @@
 //! Memory: what a process has resident that classifies once, and the stack that
 //! the calls take.
 
-use crate::catalogues::FAMILIES;
 use crate::measures::classify::SIDES;
 use crate::processes;
+use crate::results::{Costs, Measured};
 use crate::scratch::Scratch;
 use reference::catalogue::MAX_CONCEPTS;
 use std::path::Path;
@@ -13,11 +13,12 @@ use std::process::Command;
 pub const NOBODY: &str = "nobody";
 
 /// The most bytes that a process had resident: that reads the catalogue and no
-/// more, and that classifies it once by each side.
+/// more, and that classifies it once by each side that was timed. And the bytes lent.
 pub struct Peaks {
     pub family: &'static str,
+    pub lent: usize,
     pub reading: f64,
-    pub by_side: [f64; 3],
+    pub by_side: [Option<f64>; 3],
 }
 
 /// The most bytes resident of this program as it classifies a file once.
@@ -29,28 +30,43 @@ fn peak(side: &str, file: &str) -> f64 {
     ran.peak
 }
 
-/// Of each family at the largest size.
-pub fn peaks() -> Vec<Peaks> {
-    let of = |family: &'static crate::catalogues::Family| {
-        let scratch = Scratch::new();
-        let file = scratch.file("catalogue", &family.named(MAX_CONCEPTS).bytes);
-        Peaks {
-            family: family.name,
-            reading: peak(NOBODY, &file),
-            by_side: SIDES.map(|(_, side, _)| peak(side, &file)),
-        }
+/// The families that were measured at the largest size, each with the file of its
+/// catalogue there and what that cost.
+fn largest<'a>(
+    families: &'a [Measured],
+    scratch: &Scratch,
+) -> Vec<(&'a Costs, &'static str, String)> {
+    let file = |measured: &'a Measured| {
+        let family = measured.family;
+        let costs = measured.at(MAX_CONCEPTS)?;
+        let bytes = family.named(MAX_CONCEPTS).bytes;
+        Some((costs, family.name, scratch.file(family.name, &bytes)))
     };
-    FAMILIES.iter().map(of).collect()
+    families.iter().filter_map(file).collect()
 }
 
-/// The most bytes of stack that each call took on any of the families at the
-/// largest size, or on the catalogue with the deepest parts: by `c/stack.c`.
-pub fn stacks() -> Vec<(String, usize)> {
+/// Of each family that was measured at the largest size.
+pub fn peaks(families: &[Measured]) -> Vec<Peaks> {
     let scratch = Scratch::new();
-    let file = |(i, family): (usize, &crate::catalogues::Family)| {
-        scratch.file(&i.to_string(), &family.named(MAX_CONCEPTS).bytes)
+    let of = |(costs, family, file): (&Costs, &'static str, String)| Peaks {
+        family,
+        lent: costs.lent,
+        reading: peak(NOBODY, &file),
+        by_side: SIDES.map(|(side, name, _)| {
+            let timed = costs.classify.of(side).is_some();
+            timed.then(|| peak(name, &file))
+        }),
     };
-    let files: Vec<String> = FAMILIES.iter().enumerate().map(file).collect();
+    largest(families, &scratch).into_iter().map(of).collect()
+}
+
+/// The most bytes of stack that each call took on any of these families, or on the
+/// catalogue with the deepest parts: by `c/stack.c`.
+pub fn stacks(families: &[Measured]) -> Vec<(String, usize)> {
+    let scratch = Scratch::new();
+    let files = largest(families, &scratch)
+        .into_iter()
+        .map(|(_, _, file)| file);
     let program = Path::new(env!("CARGO_MANIFEST_DIR")).join("../target/stack");
     let output = Command::new(program)
         .args(files)

@@ -7,6 +7,7 @@ pub struct Sample {
     pub lower_quartile: f64,
     pub median: f64,
     pub upper_quartile: f64,
+    pub most: f64,
     pub runs: usize,
 }
 
@@ -19,6 +20,7 @@ impl Sample {
             lower_quartile: quantile(&costs, 0.25),
             median: quantile(&costs, 0.5),
             upper_quartile: quantile(&costs, 0.75),
+            most: costs[costs.len() - 1],
             runs: costs.len(),
         }
     }
@@ -43,11 +45,6 @@ fn quantile(sorted: &[f64], part: f64) -> f64 {
 /// The middle one, or the mean of the two in the middle.
 pub fn median(costs: impl Iterator<Item = f64>) -> f64 {
     Sample::of(costs.collect()).median
-}
-
-/// The factors from each cost to the next.
-pub fn factors(costs: &[f64]) -> Vec<f64> {
-    costs.windows(2).map(|pair| pair[1] / pair[0]).collect()
 }
 
 /// The exponent k of the power law `cost = c * size^k` that fits best: the slope of

@@ -31,11 +31,16 @@ fn now() -> f64 {
     1e3 * time.seconds as f64 + 1e-6 * time.nanoseconds as f64
 }
 
+/// Milliseconds of one call, and what it returns.
+pub fn timed<T>(call: impl FnOnce() -> T) -> (f64, T) {
+    let start = now();
+    let returned = black_box(call());
+    (now() - start, returned)
+}
+
 /// Milliseconds of one call.
 pub fn milliseconds<T>(call: impl FnOnce() -> T) -> f64 {
-    let start = now();
-    black_box(call());
-    now() - start
+    timed(call).0
 }
 
 /// How many rounds there are: as many as some milliseconds hold, in these limits.
@@ -47,23 +52,43 @@ pub struct Budget {
 }
 
 impl Budget {
+    /// So many rounds, however long they take.
+    pub const fn exactly(rounds: usize) -> Budget {
+        Budget {
+            milliseconds: f64::INFINITY,
+            least: rounds,
+            most: rounds,
+        }
+    }
+
     /// The rounds, where one takes that long.
     pub fn rounds(&self, one: f64) -> usize {
         let fitting = (self.milliseconds / one) as usize;
         fitting.clamp(self.least, self.most)
     }
+
+    /// Whether one round that takes that long is more than all of it: then the first
+    /// one counts.
+    pub fn is_exceeded(&self, one: f64) -> bool {
+        one > self.milliseconds
+    }
 }
 
 /// Milliseconds of each of some calls, in rounds, all calls in turn. The first round
-/// says how many there are, and does not count.
+/// says how many there are, and does not count; if it exceeds the budget, it is the
+/// only one.
 pub fn in_turn(budget: Budget, calls: usize, mut make: impl FnMut(usize)) -> Vec<Vec<f64>> {
     let mut round = || -> Vec<f64> {
         let timed = (0..calls).map(|call| milliseconds(|| make(call)));
         timed.collect()
     };
-    let rounds = budget.rounds(round().iter().sum());
+    let first = round();
+    let one = first.iter().sum();
+    if budget.is_exceeded(one) {
+        return first.into_iter().map(|time| vec![time]).collect();
+    }
     let mut times = vec![vec![]; calls];
-    for _ in 0..rounds {
+    for _ in 0..budget.rounds(one) {
         let all = times.iter_mut().zip(round());
         all.for_each(|(times, time)| times.push(time));
     }
@@ -85,12 +110,7 @@ pub fn nanoseconds(rounds: usize, calls: usize, mut make: impl FnMut(usize)) -> 
     let averaged: Vec<usize> = (0..calls)
         .map(|call| AVERAGED.rounds(tried(call, &mut make)))
         .collect();
-    let rounds = Budget {
-        milliseconds: 0.0,
-        least: rounds,
-        most: rounds,
-    };
-    let times = in_turn(rounds, calls, |call| {
+    let times = in_turn(Budget::exactly(rounds), calls, |call| {
         (0..averaged[call]).for_each(|_| make(call));
     });
     let each = |(times, count): (Vec<f64>, usize)| -> Vec<f64> {

@@ -2,7 +2,7 @@
 
 use benchmark::catalogues::adversarial::circle_and_marks;
 use benchmark::catalogues::{FAMILIES, FILES, SIZES, family, file};
-use benchmark::measures::edits::time_one_axiom;
+use benchmark::measures::edits::{classified, time_one_axiom};
 use benchmark::plain;
 use benchmark::plain::classify::sweeps;
 use benchmark::timing::Budget;
@@ -144,20 +144,26 @@ fn chains_are_long() {
 /// Changes are by as many axioms as there are rounds, or by all, each as often.
 #[test]
 fn changes_by_one_axiom() {
-    let timed = |name: &str, rounds| {
-        let budget = Budget {
-            milliseconds: 0.0,
-            least: rounds,
-            most: rounds,
-        };
-        let cost = time_one_axiom(name, &made(name, 64), budget);
+    let timed = |name: &str, budget| {
+        let catalogue = made(name, 64);
+        let mut site = classified(&catalogue);
+        let cost = time_one_axiom(name, &catalogue, &mut site, budget);
         assert_eq!(cost.withdraw.runs, cost.add.runs);
         [cost.axioms, cost.add.runs]
     };
     assert_eq!(made("shared parts", 64).axioms.len(), 3);
     assert_eq!(
-        [2, 3, 5, 6].map(|rounds| timed("shared parts", rounds)),
+        [2, 3, 5, 6].map(|rounds| timed("shared parts", Budget::exactly(rounds))),
         [[2, 2], [3, 3], [3, 6], [3, 6]]
     );
-    assert_eq!(timed("sparse", 7), [7, 7]);
+    assert_eq!(timed("sparse", Budget::exactly(7)), [7, 7]);
+    let exceeded = Budget {
+        milliseconds: 0.0,
+        ..Budget::exactly(2)
+    };
+    assert_eq!(
+        timed("shared parts", exceeded),
+        [2, 2],
+        "the first among them"
+    );
 }

@@ -1,6 +1,6 @@
 //! Medians, quartiles, fitted exponents, and rounds that fit a budget.
 
-use benchmark::statistics::{Sample, exponent, factors, median};
+use benchmark::statistics::{Sample, exponent, median};
 use benchmark::timing::{Budget, in_turn, nanoseconds};
 
 #[test]
@@ -11,6 +11,7 @@ fn samples() {
         lower_quartile: 2.0,
         median: 3.0,
         upper_quartile: 4.0,
+        most: 5.0,
         runs: 5,
     };
     assert_eq!(sample, expected);
@@ -31,7 +32,6 @@ fn medians() {
 
 #[test]
 fn growth() {
-    assert_eq!(factors(&[1.0, 2.0, 8.0]), [2.0, 4.0]);
     for power in [0.0, 1.0, 1.5, 3.0] {
         let points = [64.0, 128.0, 256.0, 512.0].map(|n: f64| (n, 7.0 * n.powf(power)));
         assert!((exponent(&points) - power).abs() < 1e-9, "{power}");
@@ -49,22 +49,37 @@ fn rounds() {
     };
     let rounds = [0.0, 1.0, 20.0, 1000.0].map(|one| budget.rounds(one));
     assert_eq!(rounds, [10, 10, 5, 3]);
+    assert_eq!(
+        [99.0, 101.0].map(|one| budget.is_exceeded(one)),
+        [false, true]
+    );
+    let always = Budget::exactly(7);
+    assert_eq!([0.0, 1e9].map(|one| always.rounds(one)), [7, 7]);
 }
 
 /// All calls in turn, in every round.
 #[test]
 fn turns() {
-    let budget = Budget {
-        milliseconds: 0.0,
-        least: 4,
-        most: 4,
-    };
     let mut made = vec![];
-    let times = in_turn(budget, 3, |call| made.push(call));
+    let times = in_turn(Budget::exactly(4), 3, |call| made.push(call));
     assert_eq!(made, [0, 1, 2].repeat(5));
     assert_eq!(times.iter().map(Vec::len).collect::<Vec<_>>(), [4, 4, 4]);
     let mut count = 0;
     let short = nanoseconds(100, 1, |_| count += 1);
     assert_eq!(short[0].len(), 100);
     assert!(count > 500 && short[0].iter().all(|&time| time > 0.0));
+}
+
+/// A first round that exceeds the budget counts, and is the only one.
+#[test]
+fn slow_rounds() {
+    let budget = Budget {
+        milliseconds: 0.0,
+        least: 4,
+        most: 4,
+    };
+    let mut made = vec![];
+    let times = in_turn(budget, 2, |call| made.push(call));
+    assert_eq!(made, [0, 1]);
+    assert_eq!(times.iter().map(Vec::len).collect::<Vec<_>>(), [1, 1]);
 }

@@ -49,6 +49,9 @@ pub fn at(path: &Path) -> Named {
 /// The numbers of concepts that a family is measured at.
 pub const SIZES: [usize; 4] = [64, 128, 256, 512];
 
+/// The sizes by which growth is told: each is twice the one before.
+pub const DOUBLINGS: [usize; 4] = [64, 128, 256, 512];
+
 /// Catalogues of one kind, of any of the sizes.
 pub struct Family {
     pub name: &'static str,

@@ -3,8 +3,7 @@
 use crate::plain::{self, indexed};
 use crate::statistics::Sample;
 use crate::timing::{self, Budget};
-use girvotal::Site;
-use reference::calls::Counts;
+use girvotal::{Counts, Site};
 use std::hint::black_box;
 
 /// Who classifies: the library, or plain Rust in one of two ways.
@@ -32,6 +31,9 @@ pub const SIDES: [(Side, &str, &str); 3] = [
     ),
 ];
 
+/// All of them, to be timed in turn.
+pub const ALL: [Side; 3] = [Side::Library, Side::Sweeping, Side::Indexed];
+
 /// Classifies once.
 pub fn once(side: Side, bytes: &[u8]) {
     match side {
@@ -41,20 +43,27 @@ pub fn once(side: Side, bytes: &[u8]) {
     }
 }
 
-/// Milliseconds of classify of one catalogue.
+/// Milliseconds of classify of one catalogue; of plain Rust where it was run.
 pub struct Cost {
     pub counts: Counts,
     pub library: Sample,
-    pub sweeping: Sample,
-    pub indexed: Sample,
+    pub sweeping: Option<Sample>,
+    pub indexed: Option<Sample>,
 }
 
 impl Cost {
     /// The better one of plain Rust.
-    pub fn plain(&self) -> Sample {
-        match self.indexed.median < self.sweeping.median {
-            true => self.indexed,
-            false => self.sweeping,
+    pub fn plain(&self) -> Option<Sample> {
+        let run = [self.sweeping, self.indexed].into_iter().flatten();
+        run.min_by(|one, other| one.median.total_cmp(&other.median))
+    }
+
+    /// A side's, if it was run.
+    pub fn of(&self, side: Side) -> Option<Sample> {
+        match side {
+            Side::Library => Some(self.library),
+            Side::Sweeping => self.sweeping,
+            Side::Indexed => self.indexed,
         }
     }
 }
@@ -64,25 +73,28 @@ pub fn site(bytes: &[u8]) -> Site {
     Site::classify(bytes.to_vec()).expect("an accepted catalogue")
 }
 
-/// Times all sides in turn, after comparing what they leave.
-pub fn time(name: &str, bytes: &[u8], budget: Budget) -> Cost {
-    let mut site = site(bytes);
-    let (expected, counts) = plain::classify(bytes);
-    assert!(site.store() == expected, "{name}: the same store");
-    assert!(
-        indexed::classify(bytes) == (expected, counts),
-        "{name}: by indices"
-    );
-    let times = timing::in_turn(budget, SIDES.len(), |i| match SIDES[i].0 {
-        Side::Library => drop(black_box(site.reclassify().expect("accepted"))),
-        side => once(side, bytes),
+/// Times some sides in turn, the library among them, which has classified the catalogue
+/// before; and compares what they leave.
+pub fn time(name: &str, site: &mut Site, sides: &[Side], budget: Budget) -> Cost {
+    let bytes = &site.catalogue().bytes().to_vec();
+    let (mut counts, mut left) = (None, vec![None; sides.len()]);
+    let times = timing::in_turn(budget, sides.len(), |i| match sides[i] {
+        Side::Library => counts = Some(black_box(site.reclassify().expect("accepted"))),
+        Side::Sweeping => left[i] = Some(black_box(plain::classify(bytes))),
+        Side::Indexed => left[i] = Some(black_box(indexed::classify(bytes))),
     });
+    let counts = counts.expect("the library's");
+    for (store, by_plain) in left.into_iter().flatten() {
+        assert!(site.store() == store, "{name}: the same store");
+        let by_plain = [by_plain.pairs, by_plain.links];
+        assert_eq!([counts.pairs, counts.links], by_plain, "{name}");
+    }
     let samples: Vec<Sample> = times.into_iter().map(Sample::of).collect();
-    let [library, sweeping, indexed] = samples.try_into().expect("all sides");
+    let sample = |side| Some(samples[sides.iter().position(|&run| run == side)?]);
     Cost {
         counts,
-        library,
-        sweeping,
-        indexed,
+        library: sample(Side::Library).expect("the library's"),
+        sweeping: sample(Side::Sweeping),
+        indexed: sample(Side::Indexed),
     }
 }

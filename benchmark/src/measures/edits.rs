@@ -3,7 +3,7 @@
 
 use super::classify;
 use crate::statistics::Sample;
-use crate::timing::{self, Budget, milliseconds};
+use crate::timing::{Budget, milliseconds};
 use girvotal::{Concept, Site};
 use reference::catalogue::{Axiom, Catalogue};
 use reference::random::Random;
@@ -197,25 +197,33 @@ pub struct OneAxiom {
 
 /// Times changes that withdraw an axiom of the catalogue, each followed by the one
 /// that adds it again. Every run takes another axiom, evenly spread; if there are
-/// fewer than runs, all are taken, each as often as the others.
-pub fn time_one_axiom(name: &str, catalogue: &Catalogue, budget: Budget) -> OneAxiom {
-    let mut site = classified(catalogue);
+/// fewer than runs, all are taken, each as often as the others. The first says how
+/// many there are, and counts only if it exceeds the budget.
+pub fn time_one_axiom(
+    name: &str,
+    catalogue: &Catalogue,
+    site: &mut Site,
+    budget: Budget,
+) -> OneAxiom {
     let store = site.store().to_vec();
     let mut both = |axiom: Axiom| {
-        let withdraw = change(&mut site, &[axiom], &[]);
-        let add = change(&mut site, &[], &[axiom]);
+        let withdraw = change(site, &[axiom], &[]);
+        let add = change(site, &[], &[axiom]);
         assert!(
             site.store() == store,
             "{name}: {axiom:?} withdrawn and added"
         );
         [withdraw, add]
     };
-    let one = timing::milliseconds(|| both(catalogue.axioms[0]));
+    let first = both(catalogue.axioms[0]);
+    let one = first.iter().sum();
     let rounds = budget.rounds(one);
     let axioms = own_axioms(catalogue, rounds.min(catalogue.axioms.len()));
     let passes = rounds.div_ceil(axioms.len());
+    let counted = budget.is_exceeded(one).then_some(first);
     let runs = axioms.iter().cycle().take(passes * axioms.len());
-    let times: Vec<[f64; 2]> = runs.copied().map(both).collect();
+    let others = runs.skip(counted.iter().len()).copied().map(both);
+    let times: Vec<[f64; 2]> = counted.into_iter().chain(others).collect();
     let sample = |i: usize| Sample::of(times.iter().map(|time| time[i]).collect());
     OneAxiom {
         withdraw: sample(0),

@@ -1,8 +1,10 @@
 //! What the benchmark writes: docs/BENCHMARKS.md's measured part, and the plot.
 //!
 //! - `tables`: the measured part
-//! - `plot`, `svg`: the plot, and a small writer of SVG
+//! - `calls`: what it says of the calls on all catalogues, and their plot
+//! - `plot`, `svg`: how a plot is drawn, and a small writer of SVG
 
+pub mod calls;
 pub mod plot;
 pub mod svg;
 pub mod tables;

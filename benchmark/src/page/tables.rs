@@ -1,20 +1,29 @@
 //! The measured part of docs/BENCHMARKS.md.
 
-use super::plot::{Bars, Panel, Series};
+use super::calls::{growth, slow};
 use super::{Table, digits, grouped, wrapped};
-use crate::catalogues::SIZES;
 use crate::measures::{classify, reading};
 use crate::results::{Costs, Measured, Results};
-use crate::statistics::{Sample, exponent, factors};
+use crate::statistics::Sample;
 use crate::whole::{KONCLUDE, Took, Whole};
 
 /// Percent of the median that the quartiles lie apart, halved.
 fn spread(sample: &Sample) -> String {
-    format!("±{:.0}%", 100.0 * sample.spread())
+    match sample.runs {
+        1 => "one run".to_string(),
+        _ => format!("±{:.0}%", 100.0 * sample.spread()),
+    }
 }
 
-fn ratio(value: f64, other: f64) -> String {
-    format!("{:.2}", value / other)
+/// A median, where there is one.
+fn median(sample: Option<Sample>) -> String {
+    sample.map_or(String::new(), |sample| digits(sample.median))
+}
+
+/// The ratio of two medians, where there are both.
+fn ratio(sample: Sample, other: Option<Sample>) -> String {
+    let ratio = |other: Sample| format!("{:.2}", sample.median / other.median);
+    other.map_or(String::new(), ratio)
 }
 
 /// A row for each catalogue, after the names of family and size.
@@ -24,9 +33,9 @@ fn by_catalogue(
     cells: impl Fn(&Costs) -> Vec<String>,
 ) -> String {
     let mut table = Table::new(&[&["catalogue", "n"], head].concat());
-    for Measured { family, costs } in families {
-        for (i, costs) in costs.iter().enumerate() {
-            let name = if i == 0 { family.name } else { "" };
+    for measured in families {
+        for (i, costs) in measured.costs.iter().enumerate() {
+            let name = if i == 0 { measured.family.name } else { "" };
             let first = [name.to_string(), costs.concepts.to_string()];
             table.row(&[&first[..], &cells(costs)].concat());
         }
@@ -46,9 +55,9 @@ fn classify_cells(cost: &classify::Cost) -> Vec<String> {
         digits(cost.library.least),
         digits(cost.library.median),
         spread(&cost.library),
-        digits(cost.sweeping.median),
-        digits(cost.indexed.median),
-        ratio(cost.library.median, cost.plain().median),
+        median(cost.sweeping),
+        median(cost.indexed),
+        ratio(cost.library, cost.plain()),
     ]
 }
 
@@ -66,13 +75,13 @@ fn change(families: &[Measured]) -> String {
         "axioms",
     ];
     by_catalogue(&head, families, |costs| {
-        let (change, plain) = (&costs.change, costs.classify.plain().median);
+        let (change, plain) = (&costs.change, costs.classify.plain());
         vec![
             digits(change.withdraw.median),
             digits(change.add.median),
-            digits(plain),
-            ratio(change.withdraw.median, plain),
-            ratio(change.add.median, plain),
+            median(plain),
+            ratio(change.withdraw, plain),
+            ratio(change.add, plain),
             change.axioms.to_string(),
         ]
     })
@@ -90,8 +99,8 @@ fn reading(families: &[Measured]) -> String {
     ];
     by_catalogue(&head.concat(), families, |costs| {
         let cells = |cost: &reading::Cost| {
-            let [library, plain] = [cost.library.median, cost.plain.median];
-            [digits(library), digits(plain), ratio(library, plain)]
+            let [library, plain] = [cost.library.median, cost.plain.median].map(digits);
+            [library, plain, ratio(cost.library, Some(cost.plain))]
         };
         let reading::Costs {
             composites,
@@ -116,72 +125,6 @@ fn reading_spread(families: &[Measured]) -> f64 {
         [composites, kinds, list].map(|cost| cost.library.spread())
     });
     100.0 * spreads.fold(0.0, f64::max)
-}
-
-/// What a call costs on a catalogue, the library's and plain Rust's.
-type Call = fn(&Costs) -> [f64; 2];
-
-/// The calls: name, unit, cost.
-const CALLS: [(&str, &str, Call); 4] = [
-    ("classify", "milliseconds", |costs| {
-        [costs.classify.library.median, costs.classify.plain().median]
-    }),
-    ("change, one axiom withdrawn", "milliseconds", |costs| {
-        [costs.change.withdraw.median, costs.classify.plain().median]
-    }),
-    ("lookup of kinds", "nanoseconds", |costs| {
-        [
-            costs.reading.kinds.library.median,
-            costs.reading.kinds.plain.median,
-        ]
-    }),
-    ("listing", "nanoseconds", |costs| {
-        [
-            costs.reading.list.library.median,
-            costs.reading.list.plain.median,
-        ]
-    }),
-];
-
-/// A family's costs of a call: sizes and costs.
-fn points(measured: &Measured, call: Call, side: usize) -> Vec<(f64, f64)> {
-    let costs = measured.costs.iter();
-    costs
-        .map(|costs| (costs.concepts as f64, call(costs)[side]))
-        .collect()
-}
-
-/// Whether a family's changes are by enough axioms, at every size, to say how they grow.
-fn by_enough_axioms(measured: &Measured) -> bool {
-    const FEWEST: usize = 20;
-    let mut costs = measured.costs.iter();
-    costs.all(|costs| costs.change.axioms >= FEWEST)
-}
-
-pub fn growth(families: &[Measured]) -> String {
-    let mut head = vec!["catalogue".to_string()];
-    head.extend(SIZES.windows(2).map(|pair| format!("to {}", pair[1])));
-    let exponents = ["classify", "plain", "withdrawn", "lookup", "listing"];
-    head.extend(exponents.map(String::from));
-    let mut table = Table::new(&head.iter().map(String::as_str).collect::<Vec<_>>());
-    for measured in families {
-        let [of_classify, of_change, of_lookup, of_list] = CALLS.map(|(_, _, call)| call);
-        let by_library = points(measured, of_classify, 0);
-        let costs: Vec<f64> = by_library.iter().map(|point| point.1).collect();
-        let mut cells = vec![measured.family.name.to_string()];
-        cells.extend(factors(&costs).iter().map(|factor| format!("{factor:.1}")));
-        let fitted = [
-            Some(by_library),
-            Some(points(measured, of_classify, 1)),
-            by_enough_axioms(measured).then(|| points(measured, of_change, 0)),
-            Some(points(measured, of_lookup, 0)),
-            Some(points(measured, of_list, 0)),
-        ];
-        let told = |points: Vec<_>| format!("{:.1}", exponent(&points));
-        cells.extend(fitted.map(|points| points.map_or(String::new(), told)));
-        table.row(&cells);
-    }
-    table.text()
 }
 
 fn files(results: &Results) -> String {
@@ -266,11 +209,14 @@ fn memory(results: &Results) -> String {
         "sweeping",
         "indexed",
     ]);
-    for (peaks, measured) in results.peaks.iter().zip(&results.families) {
-        let lent = measured.costs.last().expect("a largest size").lent;
-        let mut cells = vec![peaks.family.to_string(), megabytes(lent as f64)];
+    for peaks in &results.peaks {
+        let mut cells = vec![peaks.family.to_string(), megabytes(peaks.lent as f64)];
         cells.push(megabytes(peaks.reading));
-        cells.extend(peaks.by_side.map(megabytes));
+        cells.extend(
+            peaks
+                .by_side
+                .map(|peak| peak.map_or(String::new(), megabytes)),
+        );
         table.row(&cells);
     }
     table.text()
@@ -286,26 +232,26 @@ fn stack(results: &Results) -> String {
     )
 }
 
+/// Lines of a list.
+fn listed(lines: impl Iterator<Item = String>) -> String {
+    lines
+        .map(|line| wrapped(&format!("- {line}"), "  ") + "\n")
+        .collect()
+}
+
 /// The measured part.
 pub fn measured(results: &Results) -> String {
-    let families = results.families.iter();
-    let about = families.map(|measured| {
-        let family = measured.family;
-        wrapped(&format!("- {}: {}", family.name, family.about), "  ") + "\n"
-    });
-    let machine: String = results
-        .machine
-        .iter()
-        .map(|line| format!("- {line}\n"))
-        .collect();
     let families = &results.families;
+    let about =
+        |measured: &Measured| format!("{}: {}", measured.family.name, measured.family.about);
     format!(
-        "## Machine\n\n{machine}\n## Catalogues\n\nOf n concepts:\n\n{}\n\
+        "## Machine\n\n{}\n## Catalogues\n\nOf n concepts:\n\n{}\n\
+         {}\
          ## Classify\n\nMilliseconds of processor time:\n\n{}\n\
          The files in `data/`:\n\n{}\n\
-         ## Growth\n\nThe factor of classify from each size to the next, and the exponent k of \
-         the power law\nn^k that fits best; of changes where they are by 20 axioms or more at \
-         every size:\n\n{}\n\
+         ## Growth\n\nThe factor of classify from each of 64, 128, 256 and 512 concepts to the \
+         next, and the exponent k\nof the power law n^k that fits best, by all sizes; of changes \
+         where they are by 20 axioms or more at\nevery size:\n\n{}\n\
          ## Change\n\nMilliseconds of processor time of a change by one axiom:\n\n{}\n\
          ## Lookup and listing\n\nNanoseconds of processor time:\n\n{}\n\
          The quartiles lie at most {:.0}% of the median from their middle.\n\n\
@@ -313,7 +259,9 @@ pub fn measured(results: &Results) -> String {
          ## Memory\n\nMegabytes: what classify and change are lent, and the most that a process \
          had resident\nthat read the file, and that classified it once:\n\n{}\n\
          {}\n",
-        about.collect::<String>(),
+        listed(results.machine.iter().cloned()),
+        listed(families.iter().map(about)),
+        slow(families),
         classify(families),
         files(results),
         growth(families),
@@ -324,36 +272,4 @@ pub fn measured(results: &Results) -> String {
         memory(results),
         stack(results),
     )
-}
-
-/// The plot.
-pub fn plotted(results: &Results) -> String {
-    let names: Vec<&str> = results
-        .families
-        .iter()
-        .map(|measured| measured.family.name)
-        .collect();
-    let series = |call: Call, side: usize| {
-        let families = results.families.iter().enumerate();
-        families.map(move |(name, measured)| Series {
-            name,
-            plain: side == 1,
-            points: points(measured, call, side),
-        })
-    };
-    let panels = CALLS.map(|(title, unit, call)| Panel {
-        title,
-        unit,
-        series: series(call, 1).chain(series(call, 0)).collect(),
-    });
-    let bar = |took: &Took| (took.program.to_string(), took.milliseconds.median);
-    let bars: Vec<Bars> = results
-        .whole
-        .iter()
-        .map(|whole| Bars {
-            name: whole.file.to_string(),
-            costs: whole.took.iter().map(bar).collect(),
-        })
-        .collect();
-    super::plot::plot(&names, &panels, &bars)
 }

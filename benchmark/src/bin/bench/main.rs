@@ -6,7 +6,7 @@
 use benchmark::catalogues;
 use benchmark::measures::classify::{self, SIDES};
 use benchmark::memory::NOBODY;
-use benchmark::page::{self, tables};
+use benchmark::page::{self, calls, tables};
 use benchmark::processes;
 use benchmark::results::{Budgets, Results};
 use std::path::Path;
@@ -28,7 +28,7 @@ fn run(budgets: Budgets, print: bool) -> Result<(), String> {
     let text = std::fs::read_to_string(&document).map_err(said)?;
     let text = page::replaced(&text, &measured).ok_or("the two lines around the measured part")?;
     std::fs::write(&document, text).map_err(said)?;
-    std::fs::write(docs.join("benchmarks.svg"), tables::plotted(&results)).map_err(said)
+    std::fs::write(docs.join("benchmarks.svg"), calls::plotted(&results)).map_err(said)
 }
 
 /// Reads a file, and classifies it once by a side; by nobody, only reads it.

@@ -18,9 +18,9 @@ const BUDGET: Budget = Budget {
 fn time_one(named: &Named) {
     let Named { name, bytes } = named;
     let catalogue = Catalogue::read(bytes).expect("an accepted catalogue");
-    let cost = classify::time(name, bytes, BUDGET);
-    let [library, sweeping, indexed] =
-        [cost.library, cost.sweeping, cost.indexed].map(|sample| sample.least);
+    let cost = classify::time(name, &mut classify::site(bytes), &classify::ALL, BUDGET);
+    let least = |side| cost.of(side).expect("all are run").least;
+    let [library, sweeping, indexed] = classify::ALL.map(least);
     println!(
         "| {name} | {} | {} | {} | {} | {library:.3} | {sweeping:.3} | {indexed:.3} | {:.2} | {} |",
         catalogue.concepts.len(),

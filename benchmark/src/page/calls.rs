@@ -1,0 +1,136 @@
+//! The calls on all catalogues: how they grow, their plot.
+
+use super::plot::{self, Bars, Panel, Series};
+use super::{Table, digits, wrapped};
+use crate::catalogues::DOUBLINGS;
+use crate::results::{Costs, Measured, Results};
+use crate::statistics::{Sample, exponent};
+use crate::whole::Took;
+
+/// Which families were not measured at every size, and why.
+pub fn slow(families: &[Measured]) -> String {
+    let slow = families.iter().filter_map(|measured| {
+        let slow = measured.slow?;
+        let seconds = digits(slow.milliseconds / 1e3);
+        let Measured { family, .. } = measured;
+        Some(format!(
+            "{} from {} concepts on ({}: {seconds} seconds)",
+            family.name, slow.concepts, slow.call
+        ))
+    });
+    let slow: Vec<String> = slow.collect();
+    match slow.is_empty() {
+        true => String::new(),
+        false => {
+            wrapped(
+                &format!("Too slow to be measured: {}.", slow.join(", ")),
+                "",
+            ) + "\n\n"
+        }
+    }
+}
+
+/// What a call costs on a catalogue, the library's and plain Rust's.
+type Call = fn(&Costs) -> [Option<Sample>; 2];
+
+/// The calls that are plotted: name, unit, cost.
+const CALLS: [(&str, &str, Call); 4] = [
+    ("classify", "milliseconds", |costs| {
+        [Some(costs.classify.library), costs.classify.plain()]
+    }),
+    ("change, one axiom withdrawn", "milliseconds", |costs| {
+        [Some(costs.change.withdraw), costs.classify.plain()]
+    }),
+    ("lookup of kinds", "nanoseconds", |costs| {
+        let kinds = costs.reading.kinds;
+        [kinds.library, kinds.plain].map(Some)
+    }),
+    ("listing", "nanoseconds", |costs| {
+        let list = costs.reading.list;
+        [list.library, list.plain].map(Some)
+    }),
+];
+
+/// A family's costs of a call, where it was made: sizes and costs.
+fn points(measured: &Measured, call: Call, side: usize) -> Vec<(f64, f64)> {
+    let point = |costs: &Costs| Some((costs.concepts as f64, call(costs)[side]?.median));
+    measured.costs.iter().filter_map(point).collect()
+}
+
+/// Whether a family's changes are by enough axioms, at every size, to say how they grow.
+fn by_enough_axioms(measured: &Measured) -> bool {
+    const FEWEST: usize = 20;
+    let mut costs = measured.costs.iter();
+    costs.all(|costs| costs.change.axioms >= FEWEST)
+}
+
+/// The factors of classify from each size to its double, where both were measured.
+fn factors(measured: &Measured) -> Vec<Option<f64>> {
+    let at = |size| Some(measured.at(size)?.classify.library.median);
+    let factor = |pair: &[usize]| Some(at(pair[1])? / at(pair[0])?);
+    DOUBLINGS.windows(2).map(factor).collect()
+}
+
+/// A number with one place, where there is one.
+fn rounded(value: Option<f64>) -> String {
+    value.map_or(String::new(), |value| format!("{value:.1}"))
+}
+
+pub fn growth(families: &[Measured]) -> String {
+    let mut head = vec!["catalogue".to_string()];
+    head.extend(DOUBLINGS[1..].iter().map(|size| format!("to {size}")));
+    let exponents = ["classify", "plain", "withdrawn", "lookup", "listing"];
+    head.extend(exponents.map(String::from));
+    let mut table = Table::new(&head.iter().map(String::as_str).collect::<Vec<_>>());
+    for measured in families {
+        let [of_classify, of_change, of_lookup, of_list] = CALLS.map(|(_, _, call)| call);
+        let fitted = [
+            Some(points(measured, of_classify, 0)),
+            Some(points(measured, of_classify, 1)),
+            by_enough_axioms(measured).then(|| points(measured, of_change, 0)),
+            Some(points(measured, of_lookup, 0)),
+            Some(points(measured, of_list, 0)),
+        ];
+        let told = |points: Option<Vec<_>>| {
+            let enough = points.filter(|points| points.len() > 1);
+            rounded(enough.map(|points| exponent(&points)))
+        };
+        let mut cells = vec![measured.family.name.to_string()];
+        cells.extend(factors(measured).into_iter().map(rounded));
+        cells.extend(fitted.map(told));
+        table.row(&cells);
+    }
+    table.text()
+}
+
+/// The plot, by the sizes that are powers of two.
+pub fn plotted(results: &Results) -> String {
+    let families = results.families.iter();
+    let names: Vec<&str> = families.map(|measured| measured.family.name).collect();
+    let series = |call: Call, side: usize| {
+        let families = results.families.iter().enumerate();
+        families.map(move |(name, measured)| Series {
+            name,
+            plain: side == 1,
+            points: points(measured, call, side)
+                .into_iter()
+                .filter(|point| DOUBLINGS.contains(&(point.0 as usize)))
+                .collect(),
+        })
+    };
+    let panels = CALLS.map(|(title, unit, call)| Panel {
+        title,
+        unit,
+        series: series(call, 1).chain(series(call, 0)).collect(),
+    });
+    let bar = |took: &Took| (took.program.to_string(), took.milliseconds.median);
+    let bars: Vec<Bars> = results
+        .whole
+        .iter()
+        .map(|whole| Bars {
+            name: whole.file.to_string(),
+            costs: whole.took.iter().map(bar).collect(),
+        })
+        .collect();
+    plot::plot(&names, &panels, &bars)
+}
