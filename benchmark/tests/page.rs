@@ -2,7 +2,7 @@
 
 use benchmark::catalogues::FAMILIES;
 use benchmark::measures::{classify, edits, reading};
-use benchmark::page::calls::{growth, slow};
+use benchmark::page::calls::{growth, slow, worst};
 use benchmark::page::tables::processes;
 use benchmark::page::{BEGIN, END, Table, digits, grouped, replaced, wrapped};
 use benchmark::results::{Costs, Measured, Slow};
@@ -117,6 +117,31 @@ fn growth_by_doublings() {
             format!("| {second} | 4.0 |  |  | 2.0 | 2.0 |  | 2.0 | 2.0 |"),
             format!("| {third} |  |  |  | 2.0 |  | 2.0 | 2.0 | 2.0 |"),
         ]
+    );
+}
+
+/// The largest of all; of changes the longest, and not the median.
+#[test]
+fn the_worst_of_each_call() {
+    let mut other = squares(1, [1; 3]);
+    other.costs[1] = square(100, 3, &[1.0, 1.0, 20_000.0]);
+    other.costs[0].reading.write.library = Sample::of(vec![16_385.0]);
+    let text = worst(&[squares(0, [1; 3]), other]);
+    let rows: Vec<&str> = text.lines().skip(2).collect();
+    let [first, second] = [0, 1].map(|i| FAMILIES[i].name);
+    assert_eq!(rows.len(), 9);
+    assert_eq!(
+        [rows[0], rows[1], rows[7]],
+        [
+            format!("| classify | {second} | 128 | 16,384 ms |"),
+            format!("| change, one axiom withdrawn | {second} | 100 | 20,000 ms |"),
+            format!("| write | {second} | 64 | 16,385 ns |"),
+        ]
+    );
+    let text = worst(&[squares(0, [1; 3])]);
+    assert!(
+        text.contains(&format!("| check | {first} | 128 | 16,384 ns |")),
+        "{text}"
     );
 }
 

@@ -1,4 +1,4 @@
-//! The calls on all catalogues: how they grow, their plot.
+//! The calls on all catalogues: where they take longest, how they grow, their plot.
 
 use super::plot::{self, Bars, Panel, Series};
 use super::{Table, digits, wrapped};
@@ -6,6 +6,50 @@ use crate::catalogues::DOUBLINGS;
 use crate::results::{Costs, Measured, Results};
 use crate::statistics::{Sample, exponent};
 use crate::whole::Took;
+
+/// What a call costs on a catalogue, so that the worst is the largest.
+type Longest = fn(&Costs) -> f64;
+
+/// All calls: name, unit, cost.
+const WORST: [(&str, &str, Longest); 9] = [
+    ("classify", "ms", |costs| costs.classify.library.median),
+    ("change, one axiom withdrawn", "ms", |costs| {
+        costs.change.withdraw.most
+    }),
+    ("change, one axiom added", "ms", |costs| {
+        costs.change.add.most
+    }),
+    ("lookup of kinds", "ns", |costs| {
+        costs.reading.kinds.library.median
+    }),
+    ("lookup of composites", "ns", |costs| {
+        costs.reading.composites.library.median
+    }),
+    ("listing", "ns", |costs| costs.reading.list.library.median),
+    ("row", "ns", |costs| costs.reading.row.library.median),
+    ("write", "ns", |costs| costs.reading.write.library.median),
+    ("check", "ns", |costs| costs.reading.check.library.median),
+];
+
+/// Each call with the catalogue on which it takes longest.
+pub fn worst(families: &[Measured]) -> String {
+    let mut table = Table::new(&["call", "catalogue", "n", "longest"]);
+    for (call, unit, cost) in WORST {
+        let all = families.iter().flat_map(|measured| {
+            let costs = measured.costs.iter();
+            costs.map(|costs| (cost(costs), measured.family.name, costs.concepts))
+        });
+        let longest = all.max_by(|one, other| one.0.total_cmp(&other.0));
+        let (longest, family, concepts) = longest.expect("a catalogue");
+        table.row(&[
+            call.to_string(),
+            family.to_string(),
+            concepts.to_string(),
+            format!("{} {unit}", digits(longest)),
+        ]);
+    }
+    table.text()
+}
 
 /// Which families were not measured at every size, and why.
 pub fn slow(families: &[Measured]) -> String {

@@ -1,6 +1,6 @@
 //! The measured part of docs/BENCHMARKS.md.
 
-use super::calls::{growth, slow};
+use super::calls::{growth, slow, worst};
 use super::{Table, digits, grouped, wrapped};
 use crate::measures::{classify, reading};
 use crate::results::{Costs, Measured, Results};
@@ -246,7 +246,8 @@ pub fn measured(results: &Results) -> String {
         |measured: &Measured| format!("{}: {}", measured.family.name, measured.family.about);
     format!(
         "## Machine\n\n{}\n## Catalogues\n\nOf n concepts:\n\n{}\n\
-         {}\
+         ## Worst of each call\n\nThe largest median of all these catalogues; of changes, which \
+         are each by another axiom, the\nlongest:\n\n{}\n{}\
          ## Classify\n\nMilliseconds of processor time:\n\n{}\n\
          The files in `data/`:\n\n{}\n\
          ## Growth\n\nThe factor of classify from each of 64, 128, 256 and 512 concepts to the \
@@ -261,6 +262,7 @@ pub fn measured(results: &Results) -> String {
          {}\n",
         listed(results.machine.iter().cloned()),
         listed(families.iter().map(about)),
+        worst(families),
         slow(families),
         classify(families),
         files(results),
