@@ -1,7 +1,9 @@
 //! The plot is well-formed SVG, and its axes are right.
 
+use benchmark::catalogues::FAMILIES;
 use benchmark::page::plot::{Bars, Panel, Series, plot};
 use benchmark::page::svg::{Anchor, Svg, escaped};
+use std::collections::BTreeSet;
 
 /// The names of a text's elements, each where it begins, if it is well-formed XML as
 /// far as this writer goes: elements, attributes in quotes, the five entities.
@@ -205,4 +207,44 @@ fn points(line: &str) -> Vec<[f64; 2]> {
         [x, y].map(|number| number.parse().expect("a number"))
     };
     list.split(' ').map(place).collect()
+}
+
+/// Every family has a colour of its own, and the legend ends above the panels.
+#[test]
+fn the_legend() {
+    let names: Vec<&str> = FAMILIES.iter().map(|family| family.name).collect();
+    let series = |name| Series {
+        name,
+        plain: false,
+        points: vec![(64.0, 1.0), (128.0, 2.0)],
+    };
+    let panel = Panel {
+        title: "classify",
+        unit: "milliseconds",
+        series: (0..names.len()).map(series).collect(),
+    };
+    let text = plot(&names, &[panel], &[]);
+    let colour = |i: usize| {
+        let (_, rest) = text
+            .split_once(&format!(".fill{i} {{ fill: "))
+            .expect("a colour");
+        rest.split_once(' ').expect("an end").0
+    };
+    let colours: BTreeSet<&str> = (0..names.len()).map(colour).collect();
+    assert_eq!(colours.len(), names.len());
+    let height = |said: &str| -> f64 {
+        let line = text
+            .lines()
+            .find(|line| line.contains(said))
+            .expect("a text");
+        let (_, rest) = line.split_once(" y=\"").expect("a height");
+        rest.split_once('"')
+            .expect("an end")
+            .0
+            .parse()
+            .expect("a number")
+    };
+    let last = height(names[names.len() - 1]);
+    assert!(last < height("the library"));
+    assert!(height("the library") + 11.0 < height("classify, milliseconds"));
 }

@@ -26,7 +26,7 @@ pub struct Bars {
 }
 
 const WIDTH: f64 = 860.0;
-const LEGEND: f64 = 64.0;
+const LINE: f64 = 18.0;
 const PANEL: [f64; 2] = [WIDTH / 2.0, 270.0];
 const BAR: f64 = 16.0;
 
@@ -34,8 +34,9 @@ const BAR: f64 = 16.0;
 const AROUND: [f64; 4] = [58.0, 14.0, 30.0, 42.0];
 
 /// Colours that are told apart on a light and on a dark ground.
-const COLOURS: [&str; 7] = [
-    "#4e79a7", "#f28e2b", "#e15759", "#3d9c95", "#59a14f", "#b07aa1", "#9c755f",
+const COLOURS: [&str; 13] = [
+    "#4e79a7", "#f28e2b", "#e15759", "#3d9c95", "#59a14f", "#b07aa1", "#9c755f", "#e377b5",
+    "#b8960c", "#6a5acd", "#2fb4e9", "#8a8f98", "#c23fbf",
 ];
 
 fn style() -> String {
@@ -155,12 +156,19 @@ fn draw_panel(svg: &mut Svg, panel: &Panel, [left, top]: [f64; 2]) {
     }
 }
 
+/// How many names stand beside each other in the legend.
+const ACROSS: usize = 4;
+
+/// How high the legend is: its names, and a line that says who is dashed.
+fn legend_height(names: &[&str]) -> f64 {
+    LINE * (names.len().div_ceil(ACROSS) + 1) as f64 + 10.0
+}
+
 fn draw_legend(svg: &mut Svg, names: &[&str]) {
-    const ACROSS: usize = 4;
     let step = (WIDTH - AROUND[0]) / ACROSS as f64;
     let at = |i: usize| {
         let [column, row] = [i % ACROSS, i / ACROSS];
-        [AROUND[0] + step * column as f64, 18.0 + 18.0 * row as f64]
+        [AROUND[0] + step * column as f64, LINE * (row + 1) as f64]
     };
     for (i, name) in names.iter().enumerate() {
         let [x, y] = at(i);
@@ -227,13 +235,14 @@ fn draw_bars(svg: &mut Svg, bars: &[Bars], top: f64) {
 /// The picture: the panels two by two, with these names in the legend, and bars.
 pub fn plot(names: &[&str], panels: &[Panel], bars: &[Bars]) -> String {
     let rows = panels.len().div_ceil(2) as f64;
-    let below = LEGEND + rows * PANEL[1];
+    let legend = legend_height(names);
+    let below = legend + rows * PANEL[1];
     let mut svg = Svg::new(WIDTH, below + bars_height(bars), &style());
     draw_legend(&mut svg, names);
     for (i, panel) in panels.iter().enumerate() {
         let place = [
             PANEL[0] * (i % 2) as f64,
-            LEGEND + PANEL[1] * (i / 2) as f64,
+            legend + PANEL[1] * (i / 2) as f64,
         ];
         draw_panel(&mut svg, panel, place);
     }
