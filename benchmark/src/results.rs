@@ -131,7 +131,7 @@ impl Measured {
             costs: vec![],
             slow: None,
         };
-        for size in catalogues::SIZES {
+        for &size in family.sizes {
             let named = family.named(size);
             said(&named.name);
             match costs(&named, &measured.sides(size, budgets.limit), budgets) {

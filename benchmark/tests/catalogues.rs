@@ -3,10 +3,11 @@
 use benchmark::catalogues::adversarial::circle_and_marks;
 use benchmark::catalogues::{FAMILIES, FILES, SIZES, family, file};
 use benchmark::measures::edits::{classified, time_one_axiom};
-use benchmark::plain;
 use benchmark::plain::classify::sweeps;
+use benchmark::plain::{self, indexed};
 use benchmark::timing::Budget;
-use reference::catalogue::{Catalogue, Concept};
+use reference::catalogue::{Catalogue, Concept, MAX_AXIOMS};
+use reference::checksum::fnv1a;
 
 /// A family's catalogue, which is accepted.
 fn made(name: &str, size: usize) -> Catalogue {
@@ -17,7 +18,7 @@ fn made(name: &str, size: usize) -> Catalogue {
 #[test]
 fn every_one_is_accepted_and_has_its_size() {
     for family in FAMILIES {
-        for size in SIZES {
+        for &size in family.sizes {
             let named = family.named(size);
             let checked = girvotal::Catalogue::new(&named.bytes);
             let checked = checked.unwrap_or_else(|refusal| panic!("{}: {refusal}", named.name));
@@ -81,11 +82,110 @@ fn the_shapes_of_the_files() {
 #[test]
 fn all_are_equal() {
     for size in SIZES {
-        let (_, counts) = plain::classify(&made("all equal", size).bytes());
+        for name in ["all equal", "full"] {
+            let (_, counts) = indexed::classify(&made(name, size).bytes());
+            assert_eq!(
+                [counts.pairs, counts.links],
+                [size * size, 16 * size * (size / 2)],
+                "{name}, {size}"
+            );
+        }
+    }
+}
+
+/// The length and the checksum of each catalogue that a program in another language
+/// makes as well, as it makes them.
+#[test]
+fn the_bytes_of_another_program() {
+    let expected = [
+        ("tokens", 64, 622, 0x049a941b),
+        ("tokens", 100, 838, 0x73c3503f),
+        ("tokens", 512, 3310, 0xbd70ae9e),
+        ("tokens2", 64, 630, 0xd5fe9cbe),
+        ("tokens2", 100, 846, 0x7d6d04e6),
+        ("tokens2", 512, 3318, 0xf84217cb),
+        ("ring", 64, 560, 0x38783db8),
+        ("ring", 100, 812, 0x67d8f806),
+        ("ring", 512, 3696, 0x00ebb4d1),
+        ("crowd", 64, 480, 0xcdf10bd6),
+        ("crowd", 100, 732, 0xb95d4032),
+        ("crowd", 512, 3616, 0x156ad5de),
+        ("full", 64, 1108, 0xe2e497e4),
+        ("full", 100, 1468, 0x582fe98e),
+        ("full", 512, 5588, 0x6cb3f271),
+        ("deep parts", 64, 8468, 0x1820468d),
+        ("deep parts", 100, 17_004, 0xf28a8c02),
+        ("deep parts", 511, 19_470, 0x7e1b9871),
+    ];
+    for (name, size, length, checksum) in expected {
+        let bytes = made(name, size).bytes();
         assert_eq!(
-            [counts.pairs, counts.links],
-            [size * size, 16 * size * (size / 2)]
+            [bytes.len(), fnv1a(&bytes) as usize],
+            [length, checksum],
+            "{name}, {size}"
         );
+    }
+}
+
+/// Each of the token's six roles and both full ones link everything in the ring with
+/// everything.
+#[test]
+fn tokens_go_everywhere() {
+    for (name, beside) in [("tokens", 2), ("tokens2", 3)] {
+        let size = 64;
+        let ring = size - beside;
+        let (_, counts) = indexed::classify(&made(name, size).bytes());
+        assert!(counts.links >= 8 * ring * ring, "{name}: {}", counts.links);
+    }
+}
+
+/// Without one of the two ways to the token, all its links are removed, and return.
+#[test]
+fn tokens_return() {
+    let catalogue = made("tokens2", 64);
+    let mut site = classified(&catalogue);
+    let [left, right] = [0, 62].map(girvotal::Concept);
+    let changed = site.change(&[girvotal::Axiom { left, right }], &[]);
+    let changed = changed.expect("an axiom of the catalogue");
+    assert!(changed.removed > 6 * 61 * 61, "{}", changed.removed);
+    assert_eq!(changed.removed, changed.returned);
+}
+
+/// Every concept in the ring lies under every mark; with full roles, it has links by
+/// them to every other.
+#[test]
+fn marks_go_round() {
+    for (name, full, sizes) in [("crowd", 0, &SIZES[..]), ("ring", 12, &SIZES[..4])] {
+        for &size in sizes {
+            let marks = size / 4;
+            let ring = size - 2 * marks - 1;
+            let (_, counts) = indexed::classify(&made(name, size).bytes());
+            assert!(
+                counts.pairs >= marks * ring,
+                "{name}, {size}: {}",
+                counts.pairs
+            );
+            assert!(
+                counts.links >= full * ring * ring,
+                "{name}, {size}: {}",
+                counts.links
+            );
+        }
+    }
+}
+
+/// A chain of parts through every record, as many axioms as may be, and a row of
+/// axioms for every concept but the first.
+#[test]
+fn parts_are_deep() {
+    for size in [100, 511] {
+        let catalogue = made("deep parts", size);
+        let over = |(i, concept): (usize, &Concept)| concept.parts().contains(&(i - 1));
+        let mut composites = catalogue.concepts.iter().enumerate().skip(2);
+        assert!(composites.all(over), "{size}");
+        assert_eq!(catalogue.axioms.len(), MAX_AXIOMS, "{size}");
+        let left = |concept| catalogue.axioms.iter().any(|axiom| axiom.0 == concept);
+        assert!((1..size).all(left), "{size}");
     }
 }
 

@@ -1,6 +1,6 @@
 //! Plain Rust, which times are compared with, does what the library does.
 
-use benchmark::catalogues::{FAMILIES, SIZES};
+use benchmark::catalogues::FAMILIES;
 use benchmark::plain::{classify, indexed, reading};
 use girvotal::{Concept, Site};
 use reference::calls;
@@ -96,10 +96,16 @@ fn the_built_in_catalogues() {
     }
 }
 
+/// Families that plain Rust takes many seconds for, and the size up to which it is
+/// run here.
+const SLOW: [(&str, usize); 3] = [("tokens", 64), ("tokens2", 64), ("ring", 200)];
+
 #[test]
 fn what_is_measured() {
     for family in FAMILIES {
-        for size in SIZES {
+        let slow = SLOW.iter().find(|(name, _)| *name == family.name);
+        let most = slow.map_or(usize::MAX, |(_, most)| *most);
+        for &size in family.sizes.iter().filter(|&&size| size <= most) {
             let named = family.named(size);
             compare_classify(&named.name, &named.bytes);
         }

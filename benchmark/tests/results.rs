@@ -35,8 +35,8 @@ fn all_sizes() {
     for costs in &measured.costs {
         assert!(ALL.iter().all(|&side| costs.classify.of(side).is_some()));
     }
-    assert_eq!(measured.at(512).map(|costs| costs.concepts), Some(512));
-    assert!(measured.at(504).is_none());
+    assert_eq!(measured.at(504).map(|costs| costs.concepts), Some(504));
+    assert!(measured.at(505).is_none());
 }
 
 #[test]
@@ -57,7 +57,7 @@ fn a_slow_call_ends_it() {
 fn a_slow_side_is_left_out() {
     let (mut measured, _) = measured(f64::INFINITY);
     let sides = |measured: &Measured, limit| measured.sides(1024, limit);
-    measured.costs[3].classify = Cost {
+    measured.costs[7].classify = Cost {
         counts: Counts { pairs: 0, links: 0 },
         library: Sample::of(vec![5.0]),
         sweeping: Some(Sample::of(vec![1.0, 1.0, 4.0])),
@@ -65,7 +65,7 @@ fn a_slow_side_is_left_out() {
     };
     assert_eq!(sides(&measured, 64.0), ALL);
     assert_eq!(sides(&measured, 63.0), [Side::Library, Side::Indexed]);
-    measured.costs[3].classify.indexed = None;
+    measured.costs[7].classify.indexed = None;
     assert_eq!(sides(&measured, 63.0), [Side::Library]);
     measured.costs.clear();
     assert_eq!(sides(&measured, 0.0), ALL);

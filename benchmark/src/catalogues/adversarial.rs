@@ -2,16 +2,15 @@
 //! in rising order, again and again, and takes all that is new of one at once.
 
 use reference::catalogue::Concept::{Atomic, Conjunction, Existential};
-use reference::catalogue::{Axiom, Catalogue, Concept, MAX_ROLE_AXIOMS, MAX_ROLES};
+use reference::catalogue::{Axiom, Catalogue, Concept, MAX_AXIOMS, MAX_ROLE_AXIOMS, MAX_ROLES};
 use reference::examples;
 use reference::random::Random;
 
 /// Half atomics and half existentials over them, all in one circle of axioms; 16
 /// roles in one circle of inclusions, with 64 compositions.
-pub fn all_equal(concepts: usize) -> Catalogue {
+fn circle(concepts: usize, composition: fn(usize) -> RoleComposition) -> Catalogue {
     let half = concepts / 2;
     let existential = |i: usize| Existential(i % MAX_ROLES, i);
-    let composition = |k: usize| (k / MAX_ROLES, k % MAX_ROLES, (k + 5) % MAX_ROLES);
     Catalogue {
         concepts: atomics(half).chain((0..half).map(existential)).collect(),
         roles: MAX_ROLES,
@@ -19,6 +18,24 @@ pub fn all_equal(concepts: usize) -> Catalogue {
         compositions: (0..MAX_ROLE_AXIOMS).map(composition).collect(),
         axioms: (0..2 * half).map(|c| (c, (c + 1) % (2 * half))).collect(),
     }
+}
+
+/// A role composition: two roles, and the one that both lie within.
+type RoleComposition = (usize, usize, usize);
+
+/// Such a circle in which each composition is of another pair of roles.
+pub fn all_equal(concepts: usize) -> Catalogue {
+    circle(concepts, |k| {
+        (k / MAX_ROLES, k % MAX_ROLES, (k + 5) % MAX_ROLES)
+    })
+}
+
+/// Such a circle in which the first role composed with itself gives every role.
+pub fn full(concepts: usize) -> Catalogue {
+    circle(concepts, |k| match k.checked_sub(MAX_ROLES) {
+        None => (0, 0, k),
+        Some(i) => (i % MAX_ROLES, (3 * i + 1) % MAX_ROLES, (i + 5) % MAX_ROLES),
+    })
 }
 
 /// How many atomics the circle of `one_bit_a_sweep` has, and how many marks go
@@ -74,6 +91,20 @@ pub fn shared_parts(concepts: usize) -> Catalogue {
         2,
         vec![(0, concepts - 1), (1, 0), (concepts - 1, 2)],
     )
+}
+
+/// Composites each of the ones just before it, and as many axioms as there may be,
+/// each of a concept and of one just below: parts are as deep as can be, and rows of
+/// axioms all have a bit.
+pub fn deep_parts(concepts: usize) -> Catalogue {
+    let composite = |i: usize| match i % 2 {
+        1 => Conjunction(i - 1, i - 2),
+        _ => Existential(i % MAX_ROLES, i - 1),
+    };
+    let records = atomics(2).chain((2..concepts).map(composite)).collect();
+    let below = |by: usize| (by..concepts).rev().map(move |c| (c, c - by));
+    let axioms = (1..concepts).flat_map(below).take(MAX_AXIOMS);
+    with_axioms(records, MAX_ROLES, axioms.collect())
 }
 
 /// A chain of links by a transitive role.
