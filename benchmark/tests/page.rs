@@ -161,8 +161,8 @@ fn what_was_too_slow() {
     assert_eq!(
         slow(&[fast, one, other]),
         format!(
-            "Too slow to be measured: {first} from 200 concepts on (classify: 8.12 seconds), \
-             {second} from 504\nconcepts on (change: 8.12 seconds).\n\n"
+            "Worse still, and left out from there on: {first} at 200 concepts (classify: 8.12 \
+             seconds), {second} at\n504 concepts (change: 8.12 seconds).\n\n"
         )
     );
 }

@@ -51,27 +51,25 @@ pub fn worst(families: &[Measured]) -> String {
     table.text()
 }
 
-/// Which families were not measured at every size, and why.
+/// Where families were measured no further, and why.
 pub fn slow(families: &[Measured]) -> String {
     let slow = families.iter().filter_map(|measured| {
         let slow = measured.slow?;
-        let seconds = digits(slow.milliseconds / 1e3);
-        let Measured { family, .. } = measured;
+        let (name, seconds) = (measured.family.name, digits(slow.milliseconds / 1e3));
         Some(format!(
-            "{} from {} concepts on ({}: {seconds} seconds)",
-            family.name, slow.concepts, slow.call
+            "{name} at {} concepts ({}: {seconds} seconds)",
+            slow.concepts, slow.call
         ))
     });
     let slow: Vec<String> = slow.collect();
-    match slow.is_empty() {
-        true => String::new(),
-        false => {
-            wrapped(
-                &format!("Too slow to be measured: {}.", slow.join(", ")),
-                "",
-            ) + "\n\n"
-        }
+    if slow.is_empty() {
+        return String::new();
     }
+    let said = format!(
+        "Worse still, and left out from there on: {}.",
+        slow.join(", ")
+    );
+    wrapped(&said, "") + "\n\n"
 }
 
 /// What a call costs on a catalogue, the library's and plain Rust's.
