@@ -3,9 +3,10 @@ use catalogue::Concept;
 use indexing::ROWS_END;
 ghost use Rattle.layout.specs.Limits.{maxWidth, maxOwn, maxTable, triplesLength};
 ghost use Rattle.indexing.specs.Index.{maxIndex};
+ghost use Rattle.predecessors.specs.Mirror.{maxPredecessors};
 ghost use Rattle.buffers.specs.Zero.{Zero};
 
-// A row, the rows of one partition, a table, a row with its index; a bit for each three roles.
+// A row, the rows of one partition, a table, a row with its index, the predecessors; a bit for each three roles.
 const ROW: usize = Concept::MAX / 8;
 
 const OWN: usize = (1 + Concept::ROLES) * ROW;
@@ -13,6 +14,8 @@ const OWN: usize = (1 + Concept::ROLES) * ROW;
 const TABLE: usize = Concept::MAX * ROW;
 
 const INDEX: usize = (ROWS_END + (Concept::MAX + Concept::MAX)) * ROW;
+
+const PREDECESSORS: usize = Concept::MAX * Concept::ROLES * ROW;
 
 const TRIPLES: usize = Concept::ROLES * Concept::ROLES * Concept::ROLES / 8;
 
@@ -49,4 +52,11 @@ pub fn index() -> [u8; INDEX]
     ensures { λ r. ⌜ Zero maxIndex r ⌝ }
 {
     [0u8; INDEX]
+}
+
+// A row for each role of each concept.
+pub fn predecessors() -> [u8; PREDECESSORS]
+    ensures { λ r. ⌜ Zero maxPredecessors r ⌝ }
+{
+    [0u8; PREDECESSORS]
 }
