@@ -7,7 +7,7 @@
 #include <stdio.h>
 #include <stdlib.h>
 
-#define STACK (1 << 20)
+#define STACK (1 << 21)
 #define PAINT 0xa5
 
 static uint8_t stack[STACK] __attribute__((aligned(4096)));

@@ -8,7 +8,7 @@
 //! - [`Site`] owns the buffers and has the same calls.
 //! - A call that is refused gives a [`Refusal`], and changes no byte of what it was lent.
 //!
-//! Nothing is kept between calls. Have 384 KiB of stack for a call: that is measured, and rounded up.
+//! Nothing is kept between calls. Have 1 MiB of stack for a call: that is measured, and rounded up.
 //! Too little stack is a crash. A store belongs to the catalogue that it was classified from: no call
 //! can tell whether it is lent with another that has the same counts.
 //!

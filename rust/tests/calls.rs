@@ -141,7 +141,7 @@ fn deep() -> Vec<u8> {
     builder.build().expect("an accepted catalogue")
 }
 
-/// No call takes more than 384 KiB of stack; the rest of the thread's is for this test.
+/// No call takes more than 1 MiB of stack; the rest of the thread's is for this test.
 #[test]
 fn a_small_stack() {
     let calls = || {
@@ -160,6 +160,6 @@ fn a_small_stack() {
             }
         }
     };
-    let thread = std::thread::Builder::new().stack_size(400 * 1024);
+    let thread = std::thread::Builder::new().stack_size(1040 * 1024);
     thread.spawn(calls).expect("a thread").join().expect("done");
 }
