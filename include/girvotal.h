@@ -36,7 +36,7 @@
  * global variables. Any number of calls may run at once, as long as no buffer that
  * one of them writes is used by another.
  *
- * Stack, measured on the deepest catalogues and rounded up: have 1 MiB for
+ * Stack, measured on the deepest catalogues and rounded up: have 1024 KiB for
  * girvotal_classify and girvotal_change, 48 KiB for girvotal_lookup, girvotal_list
  * and girvotal_row, 4 KiB for girvotal_check and girvotal_write. Too little stack
  * is a crash, not a refusal: no call can find out how much there is. A thread's
