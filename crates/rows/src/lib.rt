@@ -141,7 +141,7 @@ pub fn next_below(row: &[u8], n: usize, from: usize) -> usize
 }
 
 // The eight bytes from a place on as one number, low byte first.
-fn word(row: &[u8], at: usize) -> u64
+pub fn word(row: &[u8], at: usize) -> u64
     requires { ⌜ at + 8 ≤ length (now row) ⌝ }
     ensures { λ r. ⌜ r ≡ numberAt (now (row .entry)) at 8 ⌝ }
 {
