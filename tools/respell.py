@@ -14,14 +14,12 @@ import sys
 
 TOKEN = re.compile(r"--[^\n]*|//[^\n]*|\"(?:[^\"\\]|\\.)*\"|[^\s(){}\[\],;.@\"«»⟦⟧⌜⌝]+")
 CAMEL = re.compile(r"^[a-z][a-z0-9_]*[A-Z]")
-# Names that a new spelling would make equal to another name in scope, and what they become.
+# Names that the new spelling would make equal to another name, and what they become.
 BY_HAND = {old: old.replace("-", "_") + "_lem" for old in (
     "axiom-count by-role byte-minus counts-in-limits first-fault header-fits in-force link-rule list-outcome lookup-outcome no-axioms offsets-right "
-    "row-outcome changes-groups take-groups").split()}
-BY_HAND["E-R-C"] = "E-R-C"
-# What Rattle makes, and answers of the older proof files.
-MADE = re.compile(r"^(c|l|w|tie|goal)$")
-
+    "row-outcome changes-groups take-groups after-calls call-right catalogue-numbers classify-turn clear-bit is-whole looked-up marked-reached new-at "
+    "not-whole numbers-below of-partition over-drawn own-count row-bit sides-below w8-store list-fits link-first").split()}
+BY_HAND["group-count"] = "group_size"
 
 def read(path):
     with open(path, encoding="utf-8") as f:
@@ -50,9 +48,10 @@ def main(check):
         for m in re.finditer(r"^ *((?:abbrev |unfoldable |pub |data |record |let )*)([^\s(){}.;,]+)((?: +[^\s(){}.;,:=]+)*) *(?:[({][^=\n]*[)}] *)?: *([^\n]*)", text, re.M):
             if m.group(4).lstrip().startswith("tie."):
                 continue
-            for name in [m.group(2), *m.group(3).split()]:
-                declared.add(name)
-            if re.search(r"abbrev|unfoldable", m.group(1)) or "/specs/" in path:
+            if m.group(2).startswith("--"):
+                continue
+            declared.update([m.group(2), *m.group(3).split()])
+            if "unfoldable" in m.group(1) and "/specs/" in path:
                 names.add(m.group(2))
         for m in re.finditer(r"let ([^\s(){}.;,:=]+) *[:=]", text):
             declared.add(m.group(1))
@@ -60,12 +59,10 @@ def main(check):
             declared.update(re.findall(r"[^\s(){}:]+", m.group(1)))
         for m in re.finditer(r"[({]([^\s(){}:]+(?: [^\s(){}:]+)*) : ", text):
             declared.update(m.group(1).split())
-    for path in source:
-        names.update(re.findall(r"\bfn (\w+)", read(path)))
     names |= {"length", "take", "drop", "map", "set", "get_or", "append", "reverse", "replicate", "sum", "eqb", "ltb", "leb", "cond", "not", "add", "mul", "sub", "suc", "zero"}
     clash = sorted(n for n in declared if wanted(n) and n in outside)
     table = {}
-    for old in sorted(n for n in declared if wanted(n) and n not in outside and not MADE.match(n)):
+    for old in sorted(n for n in declared if wanted(n) and n not in outside):
         if old in BY_HAND:
             table[old] = BY_HAND[old]
             continue

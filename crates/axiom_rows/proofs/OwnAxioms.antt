@@ -34,9 +34,9 @@ own-right b k =
     word-drop (axioms_at b) b (4 * k + 2) ∙ ap (word b) same
 
 module _ {b : List ℕ} (wf : WellFormed b) where
-  own-count : axioms_in (drop (axioms_at b) b) ≡ axioms b
+  own_count_lem : axioms_in (drop (axioms_at b) b) ≡ axioms b
   unfolding axioms_in
-  own-count = omega (arith, length-drop (axioms_at b) b, wf.whole)
+  own_count_lem = omega (arith, length-drop (axioms_at b) b, wf.whole)
 
   own-listed : (c d : ℕ) → listed (drop (axioms_at b) b) c d ≡ catalogue_axioms b c d
   unfolding listed among catalogue_axioms
@@ -44,7 +44,7 @@ module _ {b : List ℕ} (wf : WellFormed b) where
       let own = drop (axioms_at b) b in
       some_ext (λ k. eqb (left_in own k) c && eqb (right_in own k) d) (λ k. eqb (left b k) c && eqb (right b k) d) (axioms_in own)
       (λ k l. ap₂ (λ (x y : ℕ). eqb x c && eqb y d) (own-left b k) (own-right b k))
-      ∙ ap (some_below (λ k. eqb (left b k) c && eqb (right b k) d)) own-count
+      ∙ ap (some_below (λ k. eqb (left b k) c && eqb (right b k) d)) own_count_lem
 
   -- What is lent from its start on.
   own_is : (from : ℕ) → from ≡ axioms_at b → mid_of from (length b - from) b ≡ drop (axioms_at b) b
@@ -60,7 +60,7 @@ module _ {b : List ℕ} (wf : WellFormed b) where
       (record {
         long = long;
         whole = omega (arith, length-drop (axioms_at b) b, wf.whole);
-        sides = λ k l. let side = wf.sides k (omega (arith, own-count, l)) in (omega (arith, own-left b k, side.0, n), omega (arith, own-right b k, side.1, n));
+        sides = λ k l. let side = wf.sides k (omega (arith, own_count_lem, l)) in (omega (arith, own-left b k, side.0, n), omega (arith, own-right b k, side.1, n));
         room = omega arith;
       })
 

@@ -31,13 +31,13 @@ answer_outcome b a e = ap outcome_of e ∙ sizes_outcome b (checked b)
 pub record Answered (b : List ℕ) (store work list output : ℕ) : Type 0 where
   pub catalogue : checked b ≡ accepted
   pub store_is : store ≡ used b
-  pub work-is : work ≡ work_used b
-  pub list-is : list ≡ 2 * concepts b
-  pub output-is : output ≡ most_written b
+  pub work_is : work ≡ work_used b
+  pub list_is : list ≡ 2 * concepts b
+  pub output_is : output ≡ most_written b
 
 pub needed_answered : (b : List ℕ) (store work list output : ℕ) → Measures b (Needed store work list output) → Answered b store work list output
 needed_answered b store work list output e = go (checked b) refl e
   where
     go : (o : Outcome) → checked b ≡ o → Needed store work list output ≡ sizes_of b o → Answered b store work list output
-    go accepted f g = record { catalogue = f; store_is = cc; work-is = cc; list-is = cc; output-is = cc }
+    go accepted f g = record { catalogue = f; store_is = cc; work_is = cc; list_is = cc; output_is = cc }
     go (refused number at) f g = let z : ◌≡◌ {A = ℕ} 0 1 = cc in absurd (let n : ⊥ = omega arith in n)

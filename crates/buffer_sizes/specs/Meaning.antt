@@ -13,19 +13,19 @@ use Rattle.buffer_sizes.specs.declared.Sizes.TheVariants.{Needed}
 -- and all stores together that come to it, those that pass 10, 13 and 14, exactly if it is at least the fourth; for one of them less may do. And there is a
 -- store, a list of bytes, from which write is accepted with every such output and gives as many bytes as the fourth.
 pub record Enough (b : List ℕ) (store work list output : ℕ) : Type 0 where
-  pub store-enough : (long : ℕ) → (store_fits b long ≡ true) ↔ (store ≤ long)
-  pub work-enough : (long : ℕ) → (work_fits b long ≡ true) ↔ (work ≤ long)
-  pub list-enough : (long : ℕ) → (list_fits b long ≡ true) ↔ (list ≤ long)
-  pub output-enough : (long : ℕ) → ((from : List ℕ) → ¬ (write_checks b from long ≡ refused 20 0)) ↔ (output ≤ long)
-  pub output-reached : (from : List ℕ) × Bytes from × ((long : ℕ) → output ≤ long → write_checks b from long ≡ accepted) × (length (written b (in_force b from)) ≡ output)
+  pub store_enough : (long : ℕ) → (store_fits b long ≡ true) ↔ (store ≤ long)
+  pub work_enough : (long : ℕ) → (work_fits b long ≡ true) ↔ (work ≤ long)
+  pub list_enough : (long : ℕ) → (list_fits b long ≡ true) ↔ (list ≤ long)
+  pub output_enough : (long : ℕ) → ((from : List ℕ) → ¬ (write_checks b from long ≡ refused 20 0)) ↔ (output ≤ long)
+  pub output_reached : (from : List ℕ) × Bytes from × ((long : ℕ) → output ≤ long → write_checks b from long ≡ accepted) × (length (written b (in_force b from)) ≡ output)
 
 -- Bounds of an accepted catalogue's length and of what one can ask for.
 pub record Most (b : List ℕ) (store work list output : ℕ) : Type 0 where
-  pub catalogue-most : length b ≤ 20116
-  pub store-most : store ≤ 589824
-  pub work-most : work ≤ 557056
-  pub list-most : list ≤ 1024
-  pub output-most : output ≤ 20116
+  pub catalogue_most : length b ≤ 20116
+  pub store_most : store ≤ 589824
+  pub work_most : work ≤ 557056
+  pub list_most : list ≤ 1024
+  pub output_most : output ≤ 20116
 
 -- So of every answer.
 pub record SizesMean : Type 0 where

@@ -16,24 +16,24 @@ use Rattle.call_lists.specs.Running.{Space, space, entries_of, Answers, AnswersA
 
 -- ---- by its kind
 
-pub answers-classify : (q : Request) (b store work list : List ℕ) (a : Classified) (store' work' entries : List ℕ) → q ≡ classify
+pub answers_classify : (q : Request) (b store work list : List ℕ) (a : Classified) (store' work' entries : List ℕ) → q ≡ classify
     → Classifies b store work a store' work' → entries ≡ entries_of (classified a) → Answers b q (lend store work list) (lend store' work' list) entries
-answers-classify q b store work list a store' work' entries e call f =
+answers_classify q b store work list a store' work' entries e call f =
     record {
       answer = classified a;
       meets = subst (λ (p : Request). Meets b (lend store work list) (lend store' work' list) p (classified a)) (sym e) (classifies call);
       entered = f;
-      list-kept = λ z. refl;
+      list_kept = λ z. refl;
     }
 
-pub answers-change : (q : Request) (b withdrawn added : List ℕ) (u : Lent) (a : Changed) (v : Lent) (entries : List ℕ) → q ≡ change withdrawn added → Edits b withdrawn added u a v
+pub answers_change : (q : Request) (b withdrawn added : List ℕ) (u : Lent) (a : Changed) (v : Lent) (entries : List ℕ) → q ≡ change withdrawn added → Edits b withdrawn added u a v
     → entries ≡ entries_of (changed a) → Answers b q u v entries
-answers-change q b withdrawn added u a v entries e call f =
+answers_change q b withdrawn added u a v entries e call f =
     record {
       answer = changed a;
       meets = subst (λ (p : Request). Meets b u v p (changed a)) (sym e) (changes call);
       entered = f;
-      list-kept = λ z. let y : ◌≡◌ {A = ℕ} 0 1 = cc in absurd (omega arith);
+      list_kept = λ z. let y : ◌≡◌ {A = ℕ} 0 1 = cc in absurd (omega arith);
     }
 
 -- ---- with its own parts
@@ -43,11 +43,11 @@ put_back : (a w d : ℕ) (xs ys : List ℕ) → d ≡ w → put_mid a d xs ys �
 put_back a w d xs ys e = ap (λ (l : List ℕ). take a xs ++ (ys ++ l)) (drop-drop d a xs ∙ ap (λ (n : ℕ). drop (a + n) xs) e)
 
 module _ (b calls : List ℕ) (k d e : ℕ) (withdrawn added : List ℕ) (u : Space) (store' work' list entries : List ℕ)
-    (gone-is : withdrawn ≡ gone_at calls k) (New-is : added ≡ new_at calls k) (list-size : d ≡ 1024) (answer-size : e ≡ 6)
+    (gone_is : withdrawn ≡ gone_at calls k) (New_is : added ≡ new_at calls k) (list_size : d ≡ 1024) (answer_size : e ≡ 6)
     (x : Answers b (request_by (get_or calls (525 * k) 0) withdrawn added) (lend u.store u.work (mid_of (1024 * k) d u.lists)) (lend store' work' list) entries) where
-  request-is : request_by (get_or calls (525 * k) 0) withdrawn added ≡ request_at calls k
+  request_is : request_by (get_or calls (525 * k) 0) withdrawn added ≡ request_at calls k
   unfolding request_at
-  request-is = cc
+  request_is = cc
 
   pub answers_at : AnswersAt b calls k u (space store' work' (put_mid (1024 * k) d u.lists list) (put_mid (6 * k) e u.answers entries))
   answers_at =
@@ -55,8 +55,8 @@ module _ (b calls : List ℕ) (k d e : ℕ) (withdrawn added : List ℕ) (u : Sp
         list = list;
         entries = entries;
         answers =
-            subst (λ (w : ℕ). Answers b (request_at calls k) (lend u.store u.work (take w (drop (1024 * k) u.lists))) (lend store' work' list) entries) list-size
-            (subst (λ (q : Request). Answers b q (lend u.store u.work (mid_of (1024 * k) d u.lists)) (lend store' work' list) entries) request-is x);
-        lists-are = put_back (1024 * k) 1024 d u.lists list list-size;
-        answers-are = put_back (6 * k) 6 e u.answers entries answer-size;
+            subst (λ (w : ℕ). Answers b (request_at calls k) (lend u.store u.work (take w (drop (1024 * k) u.lists))) (lend store' work' list) entries) list_size
+            (subst (λ (q : Request). Answers b q (lend u.store u.work (mid_of (1024 * k) d u.lists)) (lend store' work' list) entries) request_is x);
+        lists_are = put_back (1024 * k) 1024 d u.lists list list_size;
+        answers_are = put_back (6 * k) 6 e u.answers entries answer_size;
       }

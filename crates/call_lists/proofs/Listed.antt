@@ -18,9 +18,9 @@ use Rattle.call_lists.specs.declared.Carried.TheVariants.{Done, BadCall, ShortLi
 use Rattle.call_lists.specs.Requests.{request_by, gone_at, new_at, request_at, requests, call_count, last_kind_by, last_kind, call_right, ask, carried}
 use Rattle.call_lists.specs.Running.{Space, Runnable}
 
-pub requests-more : (calls : List ℕ) (k : ℕ) → requests calls (k + 1) ≡ requests calls k ++ (request_at calls k ∷ [])
+pub requests_more : (calls : List ℕ) (k : ℕ) → requests calls (k + 1) ≡ requests calls k ++ (request_at calls k ∷ [])
 unfolding requests
-requests-more calls k = ap (requests calls) (add-one k)
+requests_more calls k = ap (requests calls) (add-one k)
 
 -- The first call stands in front.
 pub requests-first : (calls : List ℕ) (k : ℕ) → (rest : List Request) × (requests calls (suc k) ≡ request_at calls 0 ∷ rest)
@@ -34,12 +34,12 @@ requests-first calls (suc k) =
 pub record Right (calls : List ℕ) (k : ℕ) : Type 0 where
   pub whole : 525 * k + 525 ≤ length calls
   pub kind-right : get_or calls (525 * k) 0 ≤ last_kind k
-  pub gone-fits : word calls (525 * k + 1) ≤ 260
-  pub new-fits : word calls (525 * k + 3) ≤ 260
+  pub gone_fits : word calls (525 * k + 1) ≤ 260
+  pub new_fits : word calls (525 * k + 3) ≤ 260
 
-pub call-right : (calls : List ℕ) (k : ℕ) → call_right calls k ≡ true → Right calls k
+pub call_right_lem : (calls : List ℕ) (k : ℕ) → call_right calls k ≡ true → Right calls k
 unfolding call_right
-call-right calls k e =
+call_right_lem calls k e =
     let kind = leb (get_or calls (525 * k) 0) (last_kind k) in
     let withdrawn = leb (word calls (525 * k + 1)) 260 in
     let added = leb (word calls (525 * k + 3)) 260 in
@@ -48,12 +48,12 @@ call-right calls k e =
     record {
       whole = leb-true (525 * k + 525) (length calls) (and_left (leb (525 * k + 525) (length calls)) ((kind && withdrawn) && added) e);
       kind-right = leb-true (get_or calls (525 * k) 0) (last_kind k) (and_left kind withdrawn first);
-      gone-fits = leb-true (word calls (525 * k + 1)) 260 (and_right kind withdrawn first);
-      new-fits = leb-true (word calls (525 * k + 3)) 260 (and_right (kind && withdrawn) added rest);
+      gone_fits = leb-true (word calls (525 * k + 1)) 260 (and_right kind withdrawn first);
+      new_fits = leb-true (word calls (525 * k + 3)) 260 (and_right (kind && withdrawn) added rest);
     }
 
-pub right-at : (calls : List ℕ) (n k : ℕ) (u : Space) → Runnable calls n u → k < n → Right calls k
-right-at calls n k u r l = call-right calls k (r.right k l)
+pub right_at : (calls : List ℕ) (n k : ℕ) (u : Space) → Runnable calls n u → k < n → Right calls k
+right_at calls n k u r l = call_right_lem calls k (r.right k l)
 
 -- A call that is no classify is a change.
 pub changes : (kind : ℕ) (withdrawn added : List ℕ) → ¬ (kind ≡ 0) → request_by kind withdrawn added ≡ change withdrawn added
@@ -62,10 +62,10 @@ changes zero withdrawn added n = absurd (n refl)
 changes (suc kind) withdrawn added n = refl
 
 -- The first call is a classify.
-pub first-classify : (calls : List ℕ) → call_right calls 0 ≡ true → request_at calls 0 ≡ classify
+pub first_classify : (calls : List ℕ) → call_right calls 0 ≡ true → request_at calls 0 ≡ classify
 unfolding request_at request_by last_kind last_kind_by
-first-classify calls right =
-    let none : get_or calls 0 0 ≡ 0 = omega (arith, (call-right calls 0 right).kind-right) in
+first_classify calls right =
+    let none : get_or calls 0 0 ≡ 0 = omega (arith, (call_right_lem calls 0 right).kind-right) in
     ap (λ (kind : ℕ). request_by kind (gone_at calls 0) (new_at calls 0)) none
 
 -- ---- the answer
@@ -80,35 +80,35 @@ asked_no t answer rest e = ap (λ (s : Bool). ask s answer rest) e
 
 -- For n calls, of which the first that is not right is `bad`.
 module _ (calls : List ℕ) (lists answers n bad : ℕ) (counted : n ≡ call_count calls) (found : bad ≡ first_fault (call_right calls) n) where
-  abbrev after-lists : Carried
-  after-lists = ask (leb n (answers / 6)) ShortAnswers (Done n)
+  abbrev after_lists : Carried
+  after_lists = ask (leb n (answers / 6)) ShortAnswers (Done n)
 
-  abbrev after-bytes : Carried
-  after-bytes = ask (leb n (lists / 1024)) ShortLists after-lists
+  abbrev after_bytes : Carried
+  after_bytes = ask (leb n (lists / 1024)) ShortLists after_lists
 
-  as_asked : carried calls lists answers ≡ ask (leb n bad) (BadCall bad) after-bytes
+  as_asked : carried calls lists answers ≡ ask (leb n bad) (BadCall bad) after_bytes
   unfolding carried
   as_asked = cc
 
   pub answers_bad : bad < n → BadCall bad ≡ carried calls lists answers
-  answers_bad l = sym (as_asked ∙ asked_no _ _ after-bytes (lt-leb n bad l))
+  answers_bad l = sym (as_asked ∙ asked_no _ _ after_bytes (lt-leb n bad l))
 
   module _ (right : n ≤ bad) where
-    asked-lists : carried calls lists answers ≡ after-bytes
-    asked-lists = as_asked ∙ asked_yes _ (BadCall bad) _ (le-leb n bad right)
+    asked_lists : carried calls lists answers ≡ after_bytes
+    asked_lists = as_asked ∙ asked_yes _ (BadCall bad) _ (le-leb n bad right)
 
-    pub answers-lists : lists / 1024 < n → ShortLists ≡ carried calls lists answers
-    answers-lists l = sym (asked-lists ∙ asked_no _ _ after-lists (lt-leb n (lists / 1024) l))
+    pub answers_lists : lists / 1024 < n → ShortLists ≡ carried calls lists answers
+    answers_lists l = sym (asked_lists ∙ asked_no _ _ after_lists (lt-leb n (lists / 1024) l))
 
     module _ (lists_fit : n ≤ lists / 1024) where
-      asked-answers : carried calls lists answers ≡ after-lists
-      asked-answers = asked-lists ∙ asked_yes _ ShortLists _ (le-leb n (lists / 1024) lists_fit)
+      asked_answers : carried calls lists answers ≡ after_lists
+      asked_answers = asked_lists ∙ asked_yes _ ShortLists _ (le-leb n (lists / 1024) lists_fit)
 
-      pub answers-answers : answers / 6 < n → ShortAnswers ≡ carried calls lists answers
-      answers-answers l = sym (asked-answers ∙ asked_no _ _ (Done n) (lt-leb n (answers / 6) l))
+      pub answers_answers : answers / 6 < n → ShortAnswers ≡ carried calls lists answers
+      answers_answers l = sym (asked_answers ∙ asked_no _ _ (Done n) (lt-leb n (answers / 6) l))
 
       pub answers_done : n ≤ answers / 6 → Done n ≡ carried calls lists answers
-      answers_done l = sym (asked-answers ∙ asked_yes _ ShortAnswers _ (le-leb n (answers / 6) l))
+      answers_done l = sym (asked_answers ∙ asked_yes _ ShortAnswers _ (le-leb n (answers / 6) l))
 
 -- A question that was answered yes: its own answer is another.
 asked-through : (t : Bool) (answer rest : Carried) (n : ℕ) → ask t answer rest ≡ Done n → ((answer ≡ Done n) → ⊥) → (t ≡ true) × (rest ≡ Done n)
@@ -131,6 +131,6 @@ done_runnable calls u n e =
     let answers_fit : m ≤ length u.answers / 6 = leb-true m (length u.answers / 6) answers in
     record {
       right = λ k l. (first_fault_lem (call_right calls) m).passed k (omega arith);
-      lists-long = omega arith;
-      answers-long = omega arith;
+      lists_long = omega arith;
+      answers_long = omega arith;
     }

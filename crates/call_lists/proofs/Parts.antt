@@ -10,8 +10,8 @@ pub nothing_left : (xs : List ℕ) (n : ℕ) → length xs ≡ n → drop n xs �
 nothing_left xs n e = ap (λ (k : ℕ). drop k xs) (sym e) ∙ drop-length xs
 
 -- A list that is written from end to end.
-pub all-written : (ys xs : List ℕ) → length xs ≡ length ys → sets xs 0 ys ≡ ys
-all-written ys xs e =
+pub all_written : (ys xs : List ℕ) → length xs ≡ length ys → sets xs 0 ys ≡ ys
+all_written ys xs e =
     sets-eq ys xs 0 (omega arith)
     ∙ ap (λ (l : List ℕ). ys ++ l) (nothing_left xs (0 + length ys) (omega arith))
     ∙ append-nil ys
@@ -21,18 +21,18 @@ module _ (a : ℕ) (before now front : List ℕ) (within : a ≤ length before) 
   front_long : length front ≡ a
   front_long = omega (arith, ap length so_far, length-append front (drop a before), length-drop a before)
 
-  rest-same : drop a now ≡ drop a before
-  rest-same = ap (drop a) so_far ∙ drop_at front (drop a before) a front_long
+  rest_same : drop a now ≡ drop a before
+  rest_same = ap (drop a) so_far ∙ drop_at front (drop a before) a front_long
 
   -- The next part is still as it was.
-  pub part-kept : (w : ℕ) → take w (drop a now) ≡ take w (drop a before)
-  part-kept w = ap (take w) rest-same
+  pub part_kept : (w : ℕ) → take w (drop a now) ≡ take w (drop a before)
+  part_kept w = ap (take w) rest_same
 
   -- With the next part written, the front is longer by it.
-  pub part-written : (w : ℕ) (part after : List ℕ) → after ≡ take a now ++ (part ++ drop (a + w) now) → after ≡ (front ++ part) ++ drop (a + w) before
-  part-written w part after e =
+  pub part_written : (w : ℕ) (part after : List ℕ) → after ≡ take a now ++ (part ++ drop (a + w) now) → after ≡ (front ++ part) ++ drop (a + w) before
+  part_written w part after e =
       let left : take a now ≡ front = ap (take a) so_far ∙ take_at front (drop a before) a front_long in
-      let right : drop (a + w) now ≡ drop (a + w) before = sym (drop-drop w a now) ∙ ap (drop w) rest-same ∙ drop-drop w a before in
+      let right : drop (a + w) now ≡ drop (a + w) before = sym (drop-drop w a now) ∙ ap (drop w) rest_same ∙ drop-drop w a before in
       e
       ∙ ap₂ (λ (x y : List ℕ). x ++ (part ++ y)) left right
       ∙ sym (append_assoc front part (drop (a + w) before))

@@ -8,7 +8,7 @@ use lib.Seq.{take_at, drop_at}
 use Rattle.change_contract.specs.Questions.{Lengths}
 use Rattle.classification.proofs.Unique.{classifies_unique}
 use Rattle.change_contract.specs.Edits.{Lent, lend}
-use Rattle.change_contract.proofs.Unique.{same-buffers, edit_unique}
+use Rattle.change_contract.proofs.Unique.{same_buffers, edit_unique}
 use Rattle.demands.specs.Sequences.{Request, classify, change, Call, Answer, classified, changed, Turn, Meets, classifies, changes, RunsOn, Ran, nothing, first}
 use Rattle.call_lists.specs.declared.Carried.{Carried}
 use Rattle.call_lists.specs.declared.Carried.TheVariants.{Done, BadCall, ShortLists, ShortAnswers}
@@ -20,7 +20,7 @@ meets_unique : (b : List ℕ) (u v v' : Lent) (q : Request) (a a' : Answer) → 
     → (q ≡ classify → v'.list ≡ u.list) → (a ≡ a') × (v ≡ v')
 meets_unique b u v v' classify (classified a) (classified a') (classifies c) (classifies c') k k' =
     let (same, store, work) = classifies_unique b u.store u.work a a' v.store v'.store v.work v'.work c c' in
-    (ap classified same, same-buffers store work (k refl ∙ sym (k' refl)))
+    (ap classified same, same_buffers store work (k refl ∙ sym (k' refl)))
 meets_unique b u v v' (change withdrawn added) (changed a) (changed a') (changes c) (changes c') k k' =
     let (same, left) = edit_unique b withdrawn added u a a' v v' c c' in
     (ap changed same, left)
@@ -28,22 +28,22 @@ meets_unique b u v v' (change withdrawn added) (changed a) (changed a') (changes
 -- Two turns of one call, with the same buffers before.
 record SameAfter (t t' : Turn) : Type 0 where
   answer : t.answer ≡ t'.answer
-  store : t.store-after ≡ t'.store-after
-  work : t.work-after ≡ t'.work-after
-  list : t.list-after ≡ t'.list-after
+  store : t.store_after ≡ t'.store_after
+  work : t.work_after ≡ t'.work_after
+  list : t.list_after ≡ t'.list_after
 
 turn_unique : (store : List ℕ) (t t' : Turn) → RunsOn store t → RunsOn store t' → t.call ≡ t'.call → t.work ≡ t'.work → t.list ≡ t'.list
-    → (t.call.request ≡ classify → t.list-after ≡ t.list) → (t'.call.request ≡ classify → t'.list-after ≡ t'.list) → SameAfter t t'
+    → (t.call.request ≡ classify → t.list_after ≡ t.list) → (t'.call.request ≡ classify → t'.list_after ≡ t'.list) → SameAfter t t'
 turn_unique store t t' x x' call work list k k' =
-    let left = lend x.part-after t.work-after t.list-after in
-    let left' = lend x'.part-after t'.work-after t'.list-after in
+    let left = lend x.part_after t.work_after t.list_after in
+    let left' = lend x'.part_after t'.work_after t'.list_after in
     let met : Meets t.call.catalogue (lend (take t.call.lent.store (drop t.call.from store)) t.work t.list) left' t.call.request t'.answer =
     subst (λ (c : Call). Meets c.catalogue (lend (take c.lent.store (drop c.from store)) t.work t.list) left' c.request t'.answer) (sym call)
     (subst (λ (w : List ℕ). Meets t'.call.catalogue (lend (take t'.call.lent.store (drop t'.call.from store)) w t.list) left' t'.call.request t'.answer) (sym work)
     (subst (λ (l : List ℕ). Meets t'.call.catalogue (lend (take t'.call.lent.store (drop t'.call.from store)) t'.work l) left' t'.call.request t'.answer) (sym list)
     x'.contract))
     in
-    let kept : t.call.request ≡ classify → t'.list-after ≡ t.list = λ e. k' (sym (ap (λ (c : Call). c.request) call) ∙ e) ∙ sym list in
+    let kept : t.call.request ≡ classify → t'.list_after ≡ t.list = λ e. k' (sym (ap (λ (c : Call). c.request) call) ∙ e) ∙ sym list in
     let (answer, after) = meets_unique _ _ left left' t.call.request t.answer t'.answer x.contract met k kept in
     record {
       answer = answer;
@@ -67,7 +67,7 @@ fronts_same xs ys xs' ys' l e = (
 record SameLeft (ts ts' : List Turn) (last last' left left' : List ℕ) : Type 0 where
   store : last ≡ last'
   work : left ≡ left'
-  lists : flat_map (λ (t : Turn). t.list-after) ts ≡ flat_map (λ (t : Turn). t.list-after) ts'
+  lists : flat_map (λ (t : Turn). t.list_after) ts ≡ flat_map (λ (t : Turn). t.list_after) ts'
   answers : flat_map (λ (t : Turn). entries_of t.answer) ts ≡ flat_map (λ (t : Turn). entries_of t.answer) ts'
 
 turns_unique : (ts ts' : List Turn) (store work last last' left left' : List ℕ) → map (λ (t : Turn). t.call) ts ≡ map (λ (t : Turn). t.call) ts'
@@ -85,7 +85,7 @@ turns_unique (t ∷ ts) (t' ∷ ts') store work last last' left left' e (first x
     let (list, lists) = fronts_same t.list (flat_map (λ (s : Turn). s.list) ts) t'.list (flat_map (λ (s : Turn). s.list) ts') long f in
     let same : SameAfter t t' = turn_unique store t t' x x' call (w ∙ sym w') list k k' in
     let others : SameLeft ts ts' last last' left left' =
-    turns_unique ts ts' t.store-after t.work-after last last' left left' (tail-eq_of_cons-eq e) r
+    turns_unique ts ts' t.store_after t.work_after last last' left left' (tail-eq_of_cons-eq e) r
     (subst (λ (s : List ℕ). Ran s ts' last') (sym same.store) r') p (subst (λ (s : List ℕ). PassedOn s ts' left') (sym same.work) p') lists
     in
     record {
@@ -95,18 +95,18 @@ turns_unique (t ∷ ts) (t' ∷ ts') store work last last' left left' e (first x
       answers = ap₂ ◌++◌ (ap entries_of same.answer) others.answers;
     }
 
-same-space : {u v : Space} → u.store ≡ v.store → u.work ≡ v.work → u.lists ≡ v.lists → u.answers ≡ v.answers → u ≡ v
-same-space {u} {v} s w l a =
+same_space : {u v : Space} → u.store ≡ v.store → u.work ≡ v.work → u.lists ≡ v.lists → u.answers ≡ v.answers → u ≡ v
+same_space {u} {v} s w l a =
     ap₂ (λ (x y : List ℕ). space x y u.lists u.answers) s w ∙ ap₂ (λ (x y : List ℕ). space v.store v.work x y) l a
 
 runs_unique : (b calls : List ℕ) (n : ℕ) (u v v' : Space) → Runs b calls n u v → Runs b calls n u v' → v ≡ v'
 runs_unique b calls n u v v' r r' =
     let same = turns_unique r.turns r'.turns u.store u.work v.store v'.store v.work v'.work (r.calls_are ∙ sym r'.calls_are)
-    r.ran r'.ran r.passed_on r'.passed_on (sym r.lists-lent ∙ r'.lists-lent)
+    r.ran r'.ran r.passed_on r'.passed_on (sym r.lists_lent ∙ r'.lists_lent)
     in
-    same-space same.store same.work
-    (r.lists-are ∙ ap (λ (l : List ℕ). l ++ drop (1024 * n) u.lists) same.lists ∙ sym r'.lists-are)
-    (r.answers-are ∙ ap (λ (l : List ℕ). l ++ drop (6 * n) u.answers) same.answers ∙ sym r'.answers-are)
+    same_space same.store same.work
+    (r.lists_are ∙ ap (λ (l : List ℕ). l ++ drop (1024 * n) u.lists) same.lists ∙ sym r'.lists_are)
+    (r.answers_are ∙ ap (λ (l : List ℕ). l ++ drop (6 * n) u.answers) same.answers ∙ sym r'.answers_are)
 
 -- ---- the list
 

@@ -17,9 +17,9 @@ use Rattle.catalogue.specs.Checks.{header_fits, total_right, counts_in_limits, o
 use Rattle.catalogue.specs.Sections.{Sections}
 use Rattle.catalogue.specs.WellFormed.{WellFormed}
 use Rattle.catalogue.proofs.Bounds.{header_within}
-use Rattle.catalogue.proofs.Tests.{limits, sections, fields_simple, fields-conjunction, fields-existential, rising-first, rising-after}
+use Rattle.catalogue.proofs.Tests.{limits, sections, fields_simple, fields_conjunction, fields_existential, rising-first, rising_after}
 use Rattle.catalogue.proofs.Asked.{Yes, Each, none, also}
-use Rattle.catalogue.proofs.Passed.{accepted-passed, passed-accepted}
+use Rattle.catalogue.proofs.Passed.{accepted_passed, passed_accepted}
 
 -- Both of two tests.
 both : (s t : Bool) → s && t ≡ true → (s ≡ true) × (t ≡ true)
@@ -32,14 +32,14 @@ and {s} {t} p q = (and-eq-true_iff s t).1 (p, q)
 below : (x m y n : ℕ) → (ltb x m && ltb y n) ≡ true → (x < m) × (y < n)
 below x m y n e = let p = both _ _ e in (ltb-true x m p.0, ltb-true y n p.1)
 
-are-below : {x m y n : ℕ} → (x < m) × (y < n) → (ltb x m && ltb y n) ≡ true
-are-below p = and (lt-ltb _ _ p.0) (lt-ltb _ _ p.1)
+are_below : {x m y n : ℕ} → (x < m) × (y < n) → (ltb x m && ltb y n) ≡ true
+are_below p = and (lt-ltb _ _ p.0) (lt-ltb _ _ p.1)
 
 zeros : (x y : ℕ) → (eqb x 0 && eqb y 0) ≡ true → (x ≡ 0) × (y ≡ 0)
 zeros x y e = let p = both _ _ e in (eqb-true x 0 p.0, eqb-true y 0 p.1)
 
-are-zeros : {x y : ℕ} → (x ≡ 0) × (y ≡ 0) → (eqb x 0 && eqb y 0) ≡ true
-are-zeros p = and (eq-eqb _ _ p.0) (eq-eqb _ _ p.1)
+are_zeros : {x y : ℕ} → (x ≡ 0) × (y ≡ 0) → (eqb x 0 && eqb y 0) ≡ true
+are_zeros p = and (eq-eqb _ _ p.0) (eq-eqb _ _ p.1)
 
 -- The order of axioms as a fact.
 above-rising : (l r x y : ℕ) → above l r x y ≡ true → (l < x) ⊎ ((l ≡ x) × (r < y))
@@ -92,59 +92,59 @@ module _ (b : List ℕ) (p : Each (Yes b) catalogue_questions) where
   unfolding lists
   asked-kind-right = p (each 5 in_concepts kind_right) (search places depth 12)
 
-  asked-fields-right : (i : ℕ) → i < concepts b → fields_right b i ≡ true
+  asked_fields_right : (i : ℕ) → i < concepts b → fields_right b i ≡ true
   unfolding lists
-  asked-fields-right = p (each 6 in_concepts fields_right) (search places depth 12)
+  asked_fields_right = p (each 6 in_concepts fields_right) (search places depth 12)
 
-  asked-inclusion-right : (k : ℕ) → k < inclusions b → inclusion_right b k ≡ true
+  asked_inclusion_right : (k : ℕ) → k < inclusions b → inclusion_right b k ≡ true
   unfolding lists
-  asked-inclusion-right = p (each 7 in_inclusions inclusion_right) (search places depth 12)
+  asked_inclusion_right = p (each 7 in_inclusions inclusion_right) (search places depth 12)
 
-  asked-composition-right : (k : ℕ) → k < compositions b → composition_right b k ≡ true
+  asked_composition_right : (k : ℕ) → k < compositions b → composition_right b k ≡ true
   unfolding lists
-  asked-composition-right = p (each 7 in_compositions composition_right) (search places depth 12)
+  asked_composition_right = p (each 7 in_compositions composition_right) (search places depth 12)
 
-  asked-sides-right : (k : ℕ) → k < axioms b → sides_right b k ≡ true
+  asked_sides_right : (k : ℕ) → k < axioms b → sides_right b k ≡ true
   unfolding lists
-  asked-sides-right = p (each 8 in_axioms sides_right) (search places depth 12)
+  asked_sides_right = p (each 8 in_axioms sides_right) (search places depth 12)
 
   asked-rising-right : (k : ℕ) → k < axioms b → rising_right b k ≡ true
   unfolding lists
   asked-rising-right = p (each 9 in_axioms rising_right) (search places depth 12)
 
-  kind-most : (i : ℕ) → i < concepts b → kind b i ≤ 3
+  kind_most : (i : ℕ) → i < concepts b → kind b i ≤ 3
   unfolding kind_right
-  kind-most i l = leb-true _ _ (asked-kind-right i l)
+  kind_most i l = leb-true _ _ (asked-kind-right i l)
 
   simple : (i : ℕ) → i < concepts b → kind b i ≤ 1 → (first b i ≡ 0) × (second b i ≡ 0)
   unfolding fields_right
-  simple i l k = zeros _ _ (sym (fields_simple b i (kind b i) k) ∙ asked-fields-right i l)
+  simple i l k = zeros _ _ (sym (fields_simple b i (kind b i) k) ∙ asked_fields_right i l)
 
   conjunction : (i : ℕ) → i < concepts b → kind b i ≡ 2 → (first b i < i) × (second b i < i)
   unfolding fields_right
-  conjunction i l k = below _ _ _ _ (sym (fields-conjunction b i (kind b i) k) ∙ asked-fields-right i l)
+  conjunction i l k = below _ _ _ _ (sym (fields_conjunction b i (kind b i) k) ∙ asked_fields_right i l)
 
   restriction : (i : ℕ) → i < concepts b → kind b i ≡ 3 → (first b i < roles b) × (second b i < i)
   unfolding fields_right
-  restriction i l k = below _ _ _ _ (sym (fields-existential b i (kind b i) k) ∙ asked-fields-right i l)
+  restriction i l k = below _ _ _ _ (sym (fields_existential b i (kind b i) k) ∙ asked_fields_right i l)
 
-  inclusion-roles : (k : ℕ) → k < inclusions b → (within b k < roles b) × (around b k < roles b)
+  inclusion_roles : (k : ℕ) → k < inclusions b → (within b k < roles b) × (around b k < roles b)
   unfolding inclusion_right
-  inclusion-roles k l = below _ _ _ _ (asked-inclusion-right k l)
+  inclusion_roles k l = below _ _ _ _ (asked_inclusion_right k l)
 
-  composition-roles : (k : ℕ) → k < compositions b → (role1 b k < roles b) × (role2 b k < roles b) × (result b k < roles b)
+  composition_roles : (k : ℕ) → k < compositions b → (role1 b k < roles b) × (role2 b k < roles b) × (result b k < roles b)
   unfolding composition_right
-  composition-roles k l =
-      let r = both _ _ (asked-composition-right k l) in
+  composition_roles k l =
+      let r = both _ _ (asked_composition_right k l) in
       let s = below _ _ _ _ r.1 in
       (ltb-true _ _ r.0, s.0, s.1)
 
   axiom_sides : (k : ℕ) → k < axioms b → (left b k < concepts b) × (right b k < concepts b)
   unfolding sides_right
-  axiom_sides k l = below _ _ _ _ (asked-sides-right k l)
+  axiom_sides k l = below _ _ _ _ (asked_sides_right k l)
 
   axioms_rise : (k : ℕ) → suc k < axioms b → (left b k < left b (suc k)) ⊎ ((left b k ≡ left b (suc k)) × (right b k < right b (suc k)))
-  axioms_rise k l = above-rising _ _ _ _ (sym (rising-after b k (suc k) refl) ∙ asked-rising-right (suc k) l)
+  axioms_rise k l = above-rising _ _ _ _ (sym (rising_after b k (suc k) refl) ∙ asked-rising-right (suc k) l)
 
   passed_well_formed : WellFormed b
   passed_well_formed =
@@ -152,22 +152,22 @@ module _ (b : List ℕ) (p : Each (Yes b) catalogue_questions) where
       let counts = limits b asked_counts_in_limits in
       record {
         some_concept = counts.0;
-        concepts-limit = counts.1;
-        roles-limit = counts.2;
-        inclusions-limit = counts.3;
-        compositions-limit = counts.4;
-        axioms-limit = counts.5;
-        concepts-start = s.concepts-start;
-        inclusions-start = s.inclusions-start;
-        compositions-start = s.compositions-start;
-        axioms-start = s.axioms-start;
+        concepts_limit = counts.1;
+        roles_limit = counts.2;
+        inclusions_limit = counts.3;
+        compositions_limit = counts.4;
+        axioms_limit = counts.5;
+        concepts_start = s.concepts_start;
+        inclusions_start = s.inclusions_start;
+        compositions_start = s.compositions_start;
+        axioms_start = s.axioms_start;
         whole = s.whole;
-        kinds = kind-most;
+        kinds = kind_most;
         atomic = simple;
         conjuncts = conjunction;
         existential = restriction;
-        inclusion = inclusion-roles;
-        composition = composition-roles;
+        inclusion = inclusion_roles;
+        composition = composition_roles;
         sides = axiom_sides;
         rising = axioms_rise;
       }
@@ -178,35 +178,35 @@ module _ (b : List ℕ) (f : WellFormed b) (t : total b ≡ length b) where
   unfolding counts_in_limits
   counts_pass =
       and (le-leb _ _ f.some_concept)
-      (and (le-leb _ _ f.concepts-limit)
-      (and (le-leb _ _ f.roles-limit)
-      (and (le-leb _ _ f.inclusions-limit) (and (le-leb _ _ f.compositions-limit) (le-leb _ _ f.axioms-limit)))))
+      (and (le-leb _ _ f.concepts_limit)
+      (and (le-leb _ _ f.roles_limit)
+      (and (le-leb _ _ f.inclusions_limit) (and (le-leb _ _ f.compositions_limit) (le-leb _ _ f.axioms_limit)))))
 
   offsets_pass : offsets_right b ≡ true
   unfolding offsets_right
   offsets_pass =
-      let inclusions-start : inclusions_at b ≡ concepts_at b + 6 * concepts b = omega arith in
+      let inclusions_start : inclusions_at b ≡ concepts_at b + 6 * concepts b = omega arith in
       let end : total b ≡ axioms_at b + 4 * axioms b = t ∙ f.whole in
-      and (eq-eqb _ _ f.concepts-start)
-      (and (eq-eqb _ _ inclusions-start)
-      (and (eq-eqb _ _ f.compositions-start) (and (eq-eqb _ _ f.axioms-start) (eq-eqb _ _ end))))
+      and (eq-eqb _ _ f.concepts_start)
+      (and (eq-eqb _ _ inclusions_start)
+      (and (eq-eqb _ _ f.compositions_start) (and (eq-eqb _ _ f.axioms_start) (eq-eqb _ _ end))))
 
   fields_pass : (i : ℕ) → i < concepts b → fields_right b i ≡ true
   unfolding fields_right
   fields_pass i l = go (up_to_three _ (f.kinds i l))
     where
       go : (kind b i ≤ 1) ⊎ ((kind b i ≡ 2) ⊎ (kind b i ≡ 3)) → fields_as_kind b i (kind b i) ≡ true
-      go (inl k) = fields_simple b i _ k ∙ are-zeros (f.atomic i l k)
-      go (inr (inl k)) = fields-conjunction b i _ k ∙ are-below (f.conjuncts i l k)
-      go (inr (inr k)) = fields-existential b i _ k ∙ are-below (f.existential i l k)
+      go (inl k) = fields_simple b i _ k ∙ are_zeros (f.atomic i l k)
+      go (inr (inl k)) = fields_conjunction b i _ k ∙ are_below (f.conjuncts i l k)
+      go (inr (inr k)) = fields_existential b i _ k ∙ are_below (f.existential i l k)
 
   composition_pass : (k : ℕ) → k < compositions b → composition_right b k ≡ true
   unfolding composition_right
-  composition_pass k l = let c = f.composition k l in and (lt-ltb _ _ c.0) (are-below (c.1, c.2))
+  composition_pass k l = let c = f.composition k l in and (lt-ltb _ _ c.0) (are_below (c.1, c.2))
 
   rising_pass : (k : ℕ) → k < axioms b → rising_right b k ≡ true
   rising_pass zero l = rising-first b 0 refl
-  rising_pass (suc k) l = rising-after b k (suc k) refl ∙ rising-above _ _ _ _ (f.rising k l)
+  rising_pass (suc k) l = rising_after b k (suc k) refl ∙ rising-above _ _ _ _ (f.rising k l)
 
   well_formed_passed : Each (Yes b) catalogue_questions
   unfolding lists header_fits total_right kind_right inclusion_right sides_right
@@ -217,19 +217,19 @@ module _ (b : List ℕ) (f : WellFormed b) (t : total b ≡ length b) where
       (also (Yes b) offsets_pass
       (also (Yes b) (λ i l. le-leb _ _ (f.kinds i l))
       (also (Yes b) fields_pass
-      (also (Yes b) (λ k l. are-below (f.inclusion k l))
+      (also (Yes b) (λ k l. are_below (f.inclusion k l))
       (also (Yes b) composition_pass
-      (also (Yes b) (λ k l. are-below (f.sides k l))
+      (also (Yes b) (λ k l. are_below (f.sides k l))
       (also (Yes b) rising_pass
       (none (Yes b)))))))))))
 
 pub accepted_well_formed : {b : List ℕ} → checked b ≡ accepted → WellFormed b
-accepted_well_formed {b} e = passed_well_formed b (accepted-passed b e)
+accepted_well_formed {b} e = passed_well_formed b (accepted_passed b e)
 
 pub well_formed_accepted : {b : List ℕ} → WellFormed b → total b ≡ length b → checked b ≡ accepted
-well_formed_accepted {b} f t = passed-accepted b (well_formed_passed b f t)
+well_formed_accepted {b} f t = passed_accepted b (well_formed_passed b f t)
 
 -- The total field of an accepted catalogue is its length.
-pub accepted-total : (b : List ℕ) → checked b ≡ accepted → total b ≡ length b
+pub accepted_total : (b : List ℕ) → checked b ≡ accepted → total b ≡ length b
 unfolding total_right
-accepted-total b e = eqb-true _ _ (asked-total-right b (accepted-passed b e))
+accepted_total b e = eqb-true _ _ (asked-total-right b (accepted_passed b e))

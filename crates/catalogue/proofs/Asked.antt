@@ -8,7 +8,7 @@ use mathlib.Core.List.Memᴰ
 use mathlib.Core.List.{List, [], ◌∷◌, ◌++◌, Memᴰ}
 use Rattle.catalogue.specs.Outcome.{Outcome, accepted, refused, ask, ask_each, followed, First}
 use Rattle.catalogue.specs.Questions.{count_of, Question, once, each, number_of, ask_all}
-use Rattle.catalogue.proofs.Outcomes.{ask_yes, each_all, ask-accepted, each-accepted, ask-refused, each-refused, followed-ask, followed-each}
+use Rattle.catalogue.proofs.Outcomes.{ask_yes, each_all, ask_accepted, each_accepted, ask_refused, each_refused, followed-ask, followed-each}
 
 -- A question answered yes: of the whole catalogue, or of every record of its section.
 abbrev pub Yes : List ℕ → Question → Type 0
@@ -39,45 +39,45 @@ asked_yes (once number right ∷ qs) b rest all =
 asked_yes (each number section right ∷ qs) b rest all =
     each_all number _ (all (each number section right) (Memᴰ.head refl)) ∙ asked_yes qs b rest (λ q m. all q (Memᴰ.tail m))
 
-pub asked-accepted : (qs : List Question) (b : List ℕ) (rest : Outcome) → ask_all qs b rest ≡ accepted → Each (Yes b) qs × (rest ≡ accepted)
+pub asked_accepted : (qs : List Question) (b : List ℕ) (rest : Outcome) → ask_all qs b rest ≡ accepted → Each (Yes b) qs × (rest ≡ accepted)
 unfolding ask_all
-asked-accepted [] b rest e = (none (Yes b), e)
-asked-accepted (once number right ∷ qs) b rest e =
-    let (here, e') = ask-accepted (right b) number 0 (ask_all qs b rest) e in
-    let (later, end) = asked-accepted qs b rest e' in
+asked_accepted [] b rest e = (none (Yes b), e)
+asked_accepted (once number right ∷ qs) b rest e =
+    let (here, e') = ask_accepted (right b) number 0 (ask_all qs b rest) e in
+    let (later, end) = asked_accepted qs b rest e' in
     (also (Yes b) here later, end)
-asked-accepted (each number section right ∷ qs) b rest e =
-    let (here, e') = each-accepted (right b) (count_of section b) number (ask_all qs b rest) e in
-    let (later, end) = asked-accepted qs b rest e' in
+asked_accepted (each number section right ∷ qs) b rest e =
+    let (here, e') = each_accepted (right b) (count_of section b) number (ask_all qs b rest) e in
+    let (later, end) = asked_accepted qs b rest e' in
     (also (Yes b) here later, end)
 
 -- Refused by a question of the list, with the record at fault; or each is answered yes, and the rest refuses.
 pub record RefusedBy (b : List ℕ) (qs : List Question) (number at : ℕ) : Type 0 where
   pub question : Question
-  pub is-asked : Memᴰ question qs
+  pub is_asked : Memᴰ question qs
   pub number_is : number_of question ≡ number
   pub fault : FaultAt b question at
 
-refused-here : (b : List ℕ) (q : Question) (qs : List Question) {number at : ℕ} → number_of q ≡ number → FaultAt b q at → RefusedBy b (q ∷ qs) number at
-refused-here b q qs n f = record { question = q; is-asked = Memᴰ.head refl; number_is = n; fault = f }
+refused_here : (b : List ℕ) (q : Question) (qs : List Question) {number at : ℕ} → number_of q ≡ number → FaultAt b q at → RefusedBy b (q ∷ qs) number at
+refused_here b q qs n f = record { question = q; is_asked = Memᴰ.head refl; number_is = n; fault = f }
 
-refused-later : {b : List ℕ} (q : Question) {qs : List Question} {number at : ℕ} → RefusedBy b qs number at → RefusedBy b (q ∷ qs) number at
-refused-later q r = record { question = r.question; is-asked = Memᴰ.tail r.is-asked; number_is = r.number_is; fault = r.fault }
+refused_later : {b : List ℕ} (q : Question) {qs : List Question} {number at : ℕ} → RefusedBy b qs number at → RefusedBy b (q ∷ qs) number at
+refused_later q r = record { question = r.question; is_asked = Memᴰ.tail r.is_asked; number_is = r.number_is; fault = r.fault }
 
-pub asked-refused : (qs : List Question) (b : List ℕ) (rest : Outcome) {number at : ℕ} → ask_all qs b rest ≡ refused number at
+pub asked_refused : (qs : List Question) (b : List ℕ) (rest : Outcome) {number at : ℕ} → ask_all qs b rest ≡ refused number at
     → RefusedBy b qs number at ⊎ (Each (Yes b) qs × (rest ≡ refused number at))
 unfolding ask_all number_of
-asked-refused [] b rest e = inr (none (Yes b), e)
-asked-refused (once number right ∷ qs) b rest e =
+asked_refused [] b rest e = inr (none (Yes b), e)
+asked_refused (once number right ∷ qs) b rest e =
     let q = once number right in
-    ⊎_elim (λ (n, i). inl (refused-here b q qs n i))
-    (λ (here, e'). ⊎_elim (λ r. inl (refused-later q r)) (λ (later, end). inr (also (Yes b) here later, end)) (asked-refused qs b rest e'))
-    (ask-refused (right b) number 0 (ask_all qs b rest) e)
-asked-refused (each number section right ∷ qs) b rest e =
+    ⊎_elim (λ (n, i). inl (refused_here b q qs n i))
+    (λ (here, e'). ⊎_elim (λ r. inl (refused_later q r)) (λ (later, end). inr (also (Yes b) here later, end)) (asked_refused qs b rest e'))
+    (ask_refused (right b) number 0 (ask_all qs b rest) e)
+asked_refused (each number section right ∷ qs) b rest e =
     let q = each number section right in
-    ⊎_elim (λ (n, f). inl (refused-here b q qs n f))
-    (λ (here, e'). ⊎_elim (λ r. inl (refused-later q r)) (λ (later, end). inr (also (Yes b) here later, end)) (asked-refused qs b rest e'))
-    (each-refused (right b) (count_of section b) number (ask_all qs b rest) e)
+    ⊎_elim (λ (n, f). inl (refused_here b q qs n f))
+    (λ (here, e'). ⊎_elim (λ r. inl (refused_later q r)) (λ (later, end). inr (also (Yes b) here later, end)) (asked_refused qs b rest e'))
+    (each_refused (right b) (count_of section b) number (ask_all qs b rest) e)
 
 -- One list after another.
 pub asked-append : (ps qs : List Question) (b : List ℕ) (rest : Outcome) → ask_all (ps ++ qs) b rest ≡ ask_all ps b (ask_all qs b rest)

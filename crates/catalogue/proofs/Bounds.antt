@@ -14,11 +14,11 @@ header_within f = omega arith
 pub concept_within : {b : List ℕ} {i : ℕ} → WellFormed b → i < concepts b → 26 + 6 * i ≤ length b
 concept_within f l = omega arith
 
-pub inclusion-within : {b : List ℕ} {k : ℕ} → WellFormed b → k < inclusions b → (20 ≤ length b) × (inclusions_at b + 4 * k + 4 ≤ length b)
-inclusion-within f l = omega arith
+pub inclusion_within : {b : List ℕ} {k : ℕ} → WellFormed b → k < inclusions b → (20 ≤ length b) × (inclusions_at b + 4 * k + 4 ≤ length b)
+inclusion_within f l = omega arith
 
-pub composition-within : {b : List ℕ} {k : ℕ} → WellFormed b → k < compositions b → (20 ≤ length b) × (compositions_at b + 6 * k + 6 ≤ length b)
-composition-within f l = omega arith
+pub composition_within : {b : List ℕ} {k : ℕ} → WellFormed b → k < compositions b → (20 ≤ length b) × (compositions_at b + 6 * k + 6 ≤ length b)
+composition_within f l = omega arith
 
 pub axiom_within : {b : List ℕ} {k : ℕ} → WellFormed b → k < axioms b → (20 ≤ length b) × (axioms_at b + 4 * k + 4 ≤ length b)
 axiom_within f l = omega arith

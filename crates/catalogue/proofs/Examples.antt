@@ -19,21 +19,21 @@ unfolding word total concepts roles inclusions compositions axioms concepts_at i
 checks_compute = tt
 
 -- The numbers of the questions, in their order.
-pub catalogue-numbers : catalogue_numbers ≡ 1 ∷ 2 ∷ 3 ∷ 4 ∷ 5 ∷ 6 ∷ 7 ∷ 7 ∷ 8 ∷ 9 ∷ []
+pub catalogue_numbers_lem : catalogue_numbers ≡ 1 ∷ 2 ∷ 3 ∷ 4 ∷ 5 ∷ 6 ∷ 7 ∷ 7 ∷ 8 ∷ 9 ∷ []
 unfolding checks_compute number_of catalogue_numbers
-catalogue-numbers = refl
+catalogue_numbers_lem = refl
 
 -- W1: 80 bytes, sections at 20, 62, 62 and 68, accepted, and so well-formed.
 pub w1_offsets : (length w1 ≡ 80) × (concepts_at w1 ≡ 20) × (inclusions_at w1 ≡ 62) × (compositions_at w1 ≡ 62) × (axioms_at w1 ≡ 68)
 unfolding w1 word concepts_at inclusions_at compositions_at axioms_at
 w1_offsets = (refl, refl, refl, refl, refl)
 
-pub w1-accepted : checked w1 ≡ accepted
+pub w1_accepted : checked w1 ≡ accepted
 unfolding checks_compute w1
-w1-accepted = refl
+w1_accepted = refl
 
 pub w1_well_formed : WellFormed w1
-w1_well_formed = accepted_well_formed w1-accepted
+w1_well_formed = accepted_well_formed w1_accepted
 
 -- 19 bytes: 1.
 pub nineteen_bytes : (b : List ℕ) → length b ≡ 19 → checked b ≡ refused 1 0
@@ -41,9 +41,9 @@ unfolding checks_compute
 nineteen_bytes b e = rw e refl
 
 -- n 512 passes question 3 (and this header is refused by 4); 513: 3.
-pub most-concepts : checked (header_alone 512 16 64 64 4096) ≡ refused 4 0
+pub most_concepts : checked (header_alone 512 16 64 64 4096) ≡ refused 4 0
 unfolding checks_compute header_alone bytes_of
-most-concepts = refl
+most_concepts = refl
 
 pub too_many_concepts : checked (header_alone 513 16 64 64 4096) ≡ refused 3 0
 unfolding checks_compute header_alone bytes_of
@@ -93,9 +93,9 @@ refusals =
     (set (set all_sections 90 5) 92 3, refused 9 2) ∷
     (set (set all_sections 86 0) 88 3, refused 9 1) ∷ []
 
-pub refused-each : map (λ (c : Case). checked c.0) refusals ≡ map (λ (c : Case). c.1) refusals
+pub refused_each : map (λ (c : Case). checked c.0) refusals ≡ map (λ (c : Case). c.1) refusals
 unfolding checks_compute all_sections header_alone bytes_of refusals
-refused-each = refl
+refused_each = refl
 
 pub all_sections_accepted : checked all_sections ≡ accepted
 unfolding checks_compute all_sections

@@ -51,18 +51,18 @@ first_fault_lem ok n =
     record { within = f.within; passed = λ k l. f.passed k (omega arith) l; fails = f.fails }
 
 -- Two first records are one.
-not-before : {ok : ℕ → Bool} {n i j : ℕ} → First ok n i → First ok n j → i < j → ⊥
-not-before {ok} {n} {i} {j} f g l =
+not_before : {ok : ℕ → Bool} {n i j : ℕ} → First ok n i → First ok n j → i < j → ⊥
+not_before {ok} {n} {i} {j} f g l =
     let true_is_false : true ≡ false = sym (g.passed i l) ∙ f.fails (omega (arith, g.within)) in
     let z : ◌≡◌ {A = ℕ} 0 1 = cc in
     omega arith
 
 pub first_unique : {ok : ℕ → Bool} {n i j : ℕ} → First ok n i → First ok n j → i ≡ j
 first_unique {ok} {n} {i} {j} f g =
-    let p : ¬ (i < j) = not-before f g in
-    let q : ¬ (j < i) = not-before g f in
+    let p : ¬ (i < j) = not_before f g in
+    let q : ¬ (j < i) = not_before g f in
     omega arith
 
 -- A first record is the one that `first_fault` finds.
-pub first-is : {ok : ℕ → Bool} {n i : ℕ} → First ok n i → i ≡ first_fault ok n
-first-is {ok} {n} f = first_unique f (first_fault_lem ok n)
+pub first_is : {ok : ℕ → Bool} {n i : ℕ} → First ok n i → i ≡ first_fault ok n
+first_is {ok} {n} f = first_unique f (first_fault_lem ok n)

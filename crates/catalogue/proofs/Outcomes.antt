@@ -8,7 +8,7 @@ use mathlib.Core.Bool.{Bool, true, false}
 use lib.Dec.{eqb}
 use borrow.Author.Tests.{eqb-true, eq-eqb, ne_eqb}
 use Rattle.catalogue.specs.Outcome.{Outcome, accepted, refused, ask, ask_each, followed, First, first_fault}
-use Rattle.catalogue.proofs.FirstFault.{first_fault_lem, first-is}
+use Rattle.catalogue.proofs.FirstFault.{first_fault_lem, first_is}
 
 -- One question.
 pub ask_yes : {t : Bool} (number at : ℕ) (rest : Outcome) → t ≡ true → ask t number at rest ≡ rest
@@ -24,7 +24,7 @@ pub each_all : {ok : ℕ → Bool} {n : ℕ} (number : ℕ) (rest : Outcome) →
 unfolding ask_each
 each_all {ok} {n} number rest all =
     let f : First ok n n = record { within = omega arith; passed = all; fails = λ l. absurd (omega arith) } in
-    ask_yes number _ rest (eq-eqb _ n (sym (first-is f)))
+    ask_yes number _ rest (eq-eqb _ n (sym (first_is f)))
 
 pub each_yes : (ok : ℕ → Bool) {n m i : ℕ} (number : ℕ) (rest : Outcome) → n ≡ m → i ≡ first_fault ok n → n ≤ i → ask_each ok m number rest ≡ rest
 each_yes ok {n} {m} {i} number rest c e l = each_all number rest (λ k p. (first_fault_lem ok n).passed k (omega arith))
@@ -40,29 +40,29 @@ pub never_both : {number at : ℕ} (o : Outcome) → o ≡ accepted → o ≡ re
 never_both o p q = let z : ◌≡◌ {A = ℕ} 0 1 = cc in omega arith
 
 -- What acceptance says: the answer was yes, and the rest is accepted.
-pub ask-accepted : (t : Bool) (number at : ℕ) (rest : Outcome) → ask t number at rest ≡ accepted → (t ≡ true) × (rest ≡ accepted)
+pub ask_accepted : (t : Bool) (number at : ℕ) (rest : Outcome) → ask t number at rest ≡ accepted → (t ≡ true) × (rest ≡ accepted)
 unfolding ask
-ask-accepted true number at rest e = (refl, e)
-ask-accepted false number at rest e = absurd (never_both (refused number at) e refl)
+ask_accepted true number at rest e = (refl, e)
+ask_accepted false number at rest e = absurd (never_both (refused number at) e refl)
 
-pub each-accepted : (ok : ℕ → Bool) (n number : ℕ) (rest : Outcome) → ask_each ok n number rest ≡ accepted → ((k : ℕ) → k < n → ok k ≡ true) × (rest ≡ accepted)
+pub each_accepted : (ok : ℕ → Bool) (n number : ℕ) (rest : Outcome) → ask_each ok n number rest ≡ accepted → ((k : ℕ) → k < n → ok k ≡ true) × (rest ≡ accepted)
 unfolding ask_each
-each-accepted ok n number rest e =
-    let a : (eqb (first_fault ok n) n ≡ true) × (rest ≡ accepted) = ask-accepted _ number _ rest e in
+each_accepted ok n number rest e =
+    let a : (eqb (first_fault ok n) n ≡ true) × (rest ≡ accepted) = ask_accepted _ number _ rest e in
     let all : first_fault ok n ≡ n = eqb-true _ n a.0 in
     (λ k l. (first_fault_lem ok n).passed k (omega arith), a.1)
 
 -- What a refusal says: the answer was no, or the rest refuses so.
-pub ask-refused : (t : Bool) (number at : ℕ) (rest : Outcome) {n i : ℕ} → ask t number at rest ≡ refused n i
+pub ask_refused : (t : Bool) (number at : ℕ) (rest : Outcome) {n i : ℕ} → ask t number at rest ≡ refused n i
     → ((number ≡ n) × ((t ≡ false) × (i ≡ at))) ⊎ ((t ≡ true) × (rest ≡ refused n i))
 unfolding ask
-ask-refused true number at rest e = inr (refl, e)
-ask-refused false number at rest {n} {i} e = inl (let same : number ≡ n = cc in same, (refl, let same : i ≡ at = cc in same))
+ask_refused true number at rest e = inr (refl, e)
+ask_refused false number at rest {n} {i} e = inl (let same : number ≡ n = cc in same, (refl, let same : i ≡ at = cc in same))
 
-pub each-refused : (ok : ℕ → Bool) (k number : ℕ) (rest : Outcome) {n i : ℕ} → ask_each ok k number rest ≡ refused n i
+pub each_refused : (ok : ℕ → Bool) (k number : ℕ) (rest : Outcome) {n i : ℕ} → ask_each ok k number rest ≡ refused n i
     → ((number ≡ n) × (First ok k i × (i < k))) ⊎ (((j : ℕ) → j < k → ok j ≡ true) × (rest ≡ refused n i))
 unfolding ask_each
-each-refused ok k number rest {n} {i} e = go (dec_lt (first_fault ok k) k)
+each_refused ok k number rest {n} {i} e = go (dec_lt (first_fault ok k) k)
   where
     f : First ok k (first_fault ok k)
     f = first_fault_lem ok k

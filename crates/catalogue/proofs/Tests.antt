@@ -19,13 +19,13 @@ fields_simple b i zero l = refl
 fields_simple b i (suc zero) l = refl
 fields_simple b i (suc (suc k)) l = absurd (omega arith)
 
-pub fields-conjunction : (b : List ℕ) (i k : ℕ) → k ≡ 2 → fields_as_kind b i k ≡ (ltb (first b i) i && ltb (second b i) i)
+pub fields_conjunction : (b : List ℕ) (i k : ℕ) → k ≡ 2 → fields_as_kind b i k ≡ (ltb (first b i) i && ltb (second b i) i)
 unfolding fields_as_kind
-fields-conjunction b i k e = rw e
+fields_conjunction b i k e = rw e
 
-pub fields-existential : (b : List ℕ) (i k : ℕ) → k ≡ 3 → fields_as_kind b i k ≡ (ltb (first b i) (roles b) && ltb (second b i) i)
+pub fields_existential : (b : List ℕ) (i k : ℕ) → k ≡ 3 → fields_as_kind b i k ≡ (ltb (first b i) (roles b) && ltb (second b i) i)
 unfolding fields_as_kind
-fields-existential b i k e = rw e
+fields_existential b i k e = rw e
 
 pub fields_other : (b : List ℕ) (i k : ℕ) → 4 ≤ k → fields_as_kind b i k ≡ false
 unfolding fields_as_kind
@@ -40,9 +40,9 @@ pub rising-first : (b : List ℕ) (k : ℕ) → k ≡ 0 → rising_right b k ≡
 unfolding rising_right
 rising-first b k e = rw e
 
-pub rising-after : (b : List ℕ) (j k : ℕ) → k ≡ suc j → rising_right b k ≡ above (left b j) (right b j) (left b k) (right b k)
+pub rising_after : (b : List ℕ) (j k : ℕ) → k ≡ suc j → rising_right b k ≡ above (left b j) (right b j) (left b k) (right b k)
 unfolding rising_right
-rising-after b j k e = rw e
+rising_after b j k e = rw e
 
 -- Question 3 answered yes: the counts are in their limits.
 pub limits : (b : List ℕ) → counts_in_limits b ≡ true
@@ -65,9 +65,9 @@ sections b total-yes offsets-yes =
     let q = (and-eq-true_iff _ _).0 p.1 in
     let r = (and-eq-true_iff _ _).0 q.1 in
     let s = (and-eq-true_iff _ _).0 r.1 in
-    let concepts-start : concepts_at b ≡ 20 = eqb-true _ _ p.0 in
-    let inclusions-start : inclusions_at b ≡ concepts_at b + 6 * concepts b = eqb-true _ _ q.0 in
-    let compositions-start : compositions_at b ≡ inclusions_at b + 4 * inclusions b = eqb-true _ _ r.0 in
-    let axioms-start : axioms_at b ≡ compositions_at b + 6 * compositions b = eqb-true _ _ s.0 in
+    let concepts_start : concepts_at b ≡ 20 = eqb-true _ _ p.0 in
+    let inclusions_start : inclusions_at b ≡ concepts_at b + 6 * concepts b = eqb-true _ _ q.0 in
+    let compositions_start : compositions_at b ≡ inclusions_at b + 4 * inclusions b = eqb-true _ _ r.0 in
+    let axioms_start : axioms_at b ≡ compositions_at b + 6 * compositions b = eqb-true _ _ s.0 in
     let end : total b ≡ axioms_at b + 4 * axioms b = eqb-true _ _ s.1 in
     omega arith

@@ -7,18 +7,18 @@ use Rattle.catalogue.specs.declared.records.Composition.{Composition}
 use Rattle.catalogue.specs.declared.records.Axiom.{Axiom}
 
 pub record ConceptRead (b : List ℕ) (i : ℕ) (r : Concept) : Type 0 where
-  pub kind-is : r.kind ≡ kind b i
-  pub first-is : r.first ≡ first b i
+  pub kind_is : r.kind ≡ kind b i
+  pub first_is : r.first ≡ first b i
   pub second_is : r.second ≡ second b i
 
 pub record InclusionRead (b : List ℕ) (k : ℕ) (r : Inclusion) : Type 0 where
-  pub within-is : r.within ≡ within b k
-  pub around-is : r.around ≡ around b k
+  pub within_is : r.within ≡ within b k
+  pub around_is : r.around ≡ around b k
 
 pub record CompositionRead (b : List ℕ) (k : ℕ) (r : Composition) : Type 0 where
-  pub first-is : r.first ≡ role1 b k
+  pub first_is : r.first ≡ role1 b k
   pub second_is : r.second ≡ role2 b k
-  pub result-is : r.result ≡ result b k
+  pub result_is : r.result ≡ result b k
 
 pub record AxiomRead (b : List ℕ) (k : ℕ) (r : Axiom) : Type 0 where
   pub left_is : r.left ≡ left b k

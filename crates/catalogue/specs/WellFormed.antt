@@ -6,15 +6,15 @@ use Rattle.catalogue.specs.Records.{kind, first, second, within, around, role1, 
 -- Counts in their limits, sections one after the other, kinds, parts, roles and sides in range, axioms strictly rising.
 pub record WellFormed (b : List ℕ) : Type 0 where
   pub some_concept : 1 ≤ concepts b
-  pub concepts-limit : concepts b ≤ 512
-  pub roles-limit : roles b ≤ 16
-  pub inclusions-limit : inclusions b ≤ 64
-  pub compositions-limit : compositions b ≤ 64
-  pub axioms-limit : axioms b ≤ 4096
-  pub concepts-start : concepts_at b ≡ 20
-  pub inclusions-start : inclusions_at b ≡ 20 + 6 * concepts b
-  pub compositions-start : compositions_at b ≡ inclusions_at b + 4 * inclusions b
-  pub axioms-start : axioms_at b ≡ compositions_at b + 6 * compositions b
+  pub concepts_limit : concepts b ≤ 512
+  pub roles_limit : roles b ≤ 16
+  pub inclusions_limit : inclusions b ≤ 64
+  pub compositions_limit : compositions b ≤ 64
+  pub axioms_limit : axioms b ≤ 4096
+  pub concepts_start : concepts_at b ≡ 20
+  pub inclusions_start : inclusions_at b ≡ 20 + 6 * concepts b
+  pub compositions_start : compositions_at b ≡ inclusions_at b + 4 * inclusions b
+  pub axioms_start : axioms_at b ≡ compositions_at b + 6 * compositions b
   pub whole : length b ≡ axioms_at b + 4 * axioms b
   pub kinds : (i : ℕ) → i < concepts b → kind b i ≤ 3
   pub atomic : (i : ℕ) → i < concepts b → kind b i ≤ 1 → (first b i ≡ 0) × (second b i ≡ 0)

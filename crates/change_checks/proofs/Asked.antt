@@ -15,16 +15,16 @@ use Rattle.store.specs.Written.{axiom_count}
 use Rattle.store.specs.Checks.{axioms_in_limit, numbers_below}
 use Rattle.change_contract.specs.Lists.{axioms_in, sides_in, edited}
 use Rattle.change_contract.specs.Questions.{is_whole, none_twice, all_in_force, none_in_force}
-use Rattle.change_contract.proofs.Lists.{whole_long, sides-some, edited-count}
+use Rattle.change_contract.proofs.Lists.{whole_long, sides_some, edited_count}
 use Rattle.change_checks.specs.declared.Fault.{Fault}
 use Rattle.change_checks.specs.declared.Fault.TheVariants.{Repeated, Beyond, Absent, Present}
 use Rattle.change_checks.specs.Reading.{Whole, fault_at}
 
-pub is-whole : (list : List ℕ) → is_whole (length list) ≡ true → Whole list
-is-whole list e = let (few, whole) = whole_long (length list) e in record { few = few; whole = whole }
+pub is_whole_lem : (list : List ℕ) → is_whole (length list) ≡ true → Whole list
+is_whole_lem list e = let (few, whole) = whole_long (length list) e in record { few = few; whole = whole }
 
-pub empty-whole : Whole []
-empty-whole = record { few = lit≤ tt; whole = refl }
+pub empty_whole : Whole []
+empty_whole = record { few = lit≤ tt; whole = refl }
 
 -- ---- 23, 15, 18 and 16
 
@@ -32,18 +32,18 @@ abbrev pub any_fault : Fault → List ℕ → Axioms → List ℕ → Bool
 any_fault fault b F list = some_below (fault_at fault b F list) (axioms_in list)
 
 module _ (b : List ℕ) (F : Axioms) (list : List ℕ) where
-  pub twice-asked : none_twice list ≡ not (any_fault Repeated b F list)
+  pub twice_asked : none_twice list ≡ not (any_fault Repeated b F list)
   unfolding none_twice fault_at
-  twice-asked = refl
+  twice_asked = refl
 
-  pub beyond-asked : numbers_below b (sides_in list) ≡ not (any_fault Beyond b F list)
+  pub beyond_asked : numbers_below b (sides_in list) ≡ not (any_fault Beyond b F list)
   unfolding sides_in fault_at
-  beyond-asked = sides-some (λ c. ltb c (concepts b)) list (axioms_in list)
+  beyond_asked = sides_some (λ c. ltb c (concepts b)) list (axioms_in list)
 
   -- Of one list alone.
-  pub absent-asked : all_in_force F list ≡ not (any_fault Absent b F (list ++ []))
+  pub absent_asked : all_in_force F list ≡ not (any_fault Absent b F (list ++ []))
   unfolding all_in_force fault_at
-  absent-asked = ap (λ (l : List ℕ). all_in_force F l) (sym (append-nil list))
+  absent_asked = ap (λ (l : List ℕ). all_in_force F l) (sym (append-nil list))
 
   pub present_asked : none_in_force F list ≡ not (any_fault Present b F (list ++ []))
   unfolding none_in_force fault_at
@@ -53,16 +53,16 @@ module _ (b : List ℕ) (F : Axioms) (list : List ℕ) where
 
 module _ (b : List ℕ) (F : Axioms) (withdrawn added : List ℕ) (whole : length withdrawn % 4 ≡ 0) (once : none_twice (withdrawn ++ added) ≡ true)
     (numbers : numbers_below b (sides_in (withdrawn ++ added)) ≡ true) (there : all_in_force F withdrawn ≡ true) (out : none_in_force F added ≡ true) where
-  pub room-asked : {t : Bool} → leb (axiom_count b F + axioms_in added) (4096 + axioms_in withdrawn) ≡ t → axioms_in_limit b (edited F withdrawn added) ≡ t
+  pub room_asked : {t : Bool} → leb (axiom_count b F + axioms_in added) (4096 + axioms_in withdrawn) ≡ t → axioms_in_limit b (edited F withdrawn added) ≡ t
   unfolding axioms_in_limit
-  room-asked e = same ∙ e
+  room_asked e = same ∙ e
     where
       same : leb (axiom_count b (edited F withdrawn added)) 4096 ≡ leb (axiom_count b F + axioms_in added) (4096 + axioms_in withdrawn)
       same =
           agree (leb (axiom_count b (edited F withdrawn added)) 4096) (leb (axiom_count b F + axioms_in added) (4096 + axioms_in withdrawn))
           (λ e.
           le-leb (axiom_count b F + axioms_in added) (4096 + axioms_in withdrawn)
-          (omega (arith, leb-true (axiom_count b (edited F withdrawn added)) 4096 e, edited-count b F withdrawn added whole once numbers there out)))
+          (omega (arith, leb-true (axiom_count b (edited F withdrawn added)) 4096 e, edited_count b F withdrawn added whole once numbers there out)))
           (λ e.
           le-leb (axiom_count b (edited F withdrawn added)) 4096
-          (omega (arith, leb-true (axiom_count b F + axioms_in added) (4096 + axioms_in withdrawn) e, edited-count b F withdrawn added whole once numbers there out)))
+          (omega (arith, leb-true (axiom_count b F + axioms_in added) (4096 + axioms_in withdrawn) e, edited_count b F withdrawn added whole once numbers there out)))

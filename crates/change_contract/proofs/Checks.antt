@@ -16,62 +16,62 @@ use Rattle.layout.proofs.StoreRows.{in_force_range}
 use Rattle.store.specs.Written.{axiom_count}
 use Rattle.store.specs.Fresh.{Marked}
 use Rattle.store.specs.Checks.{axioms_in_limit, numbers_below}
-use Rattle.store.proofs.Checks.{store_long, work-long, list-long, axioms-few}
+use Rattle.store.proofs.Checks.{store_long, work_long, list_long, axioms_few}
 use Rattle.change_contract.specs.Lists.{sides_in, edited}
 use Rattle.change_contract.specs.Questions.{is_whole, none_twice, all_in_force, none_in_force, change_checks}
 use Rattle.change_contract.specs.Edits.{Lent, lengths, asked}
 use Rattle.change_contract.proofs.Lists.{whole_long, edited_in_range}
-use Rattle.change_contract.proofs.Asking.{rest-passed, pass_axioms, changes-by-axioms}
+use Rattle.change_contract.proofs.Asking.{rest_passed, pass_axioms, changes_by_axioms}
 
 -- ---- accepted
 
 -- What an accepted change is lent, whatever the store holds.
 pub record Accepted (b withdrawn added : List ℕ) (u : Lent) : Type 0 where
   pub well_formed : WellFormed b
-  pub store-fits : used b ≤ length u.store
-  pub work-fits : work_used b ≤ length u.work
-  pub list-fits : 2 * concepts b ≤ length u.list
-  pub withdrawn-whole : is_whole (length withdrawn) ≡ true
-  pub added-whole : is_whole (length added) ≡ true
+  pub store_fits : used b ≤ length u.store
+  pub work_fits : work_used b ≤ length u.work
+  pub list_fits_lem : 2 * concepts b ≤ length u.list
+  pub withdrawn_whole : is_whole (length withdrawn) ≡ true
+  pub added_whole : is_whole (length added) ≡ true
   pub once : none_twice (withdrawn ++ added) ≡ true
   pub clear : spare_clear b u.store ≡ true
   pub few : axiom_count b (in_force b u.store) ≤ 4096
   pub numbers : numbers_below b (sides_in (withdrawn ++ added)) ≡ true
   pub all_there : all_in_force (in_force b u.store) withdrawn ≡ true
   pub all_new : none_in_force (in_force b u.store) added ≡ true
-  pub after-few : axiom_count b (edited (in_force b u.store) withdrawn added) ≤ 4096
+  pub after_few : axiom_count b (edited (in_force b u.store) withdrawn added) ≤ 4096
   pub range : InRange b (in_force b u.store)
-  pub after-range : InRange b (edited (in_force b u.store) withdrawn added)
+  pub after_range : InRange b (edited (in_force b u.store) withdrawn added)
 
-pub edit-accepted : (b withdrawn added : List ℕ) (u : Lent) → asked b withdrawn added u ≡ accepted → Accepted b withdrawn added u
+pub edit_accepted : (b withdrawn added : List ℕ) (u : Lent) → asked b withdrawn added u ≡ accepted → Accepted b withdrawn added u
 unfolding asked
-edit-accepted b withdrawn added u e =
+edit_accepted b withdrawn added u e =
     let F = in_force b u.store in
-    let (p, rest) = rest-passed b withdrawn added (lengths u) (spare_clear b u.store) (axioms_in_limit b F) F e in
+    let (p, rest) = rest_passed b withdrawn added (lengths u) (spare_clear b u.store) (axioms_in_limit b F) F e in
     let (there, out, room) = pass_axioms b withdrawn added F rest in
-    let range = in_force_range b u.store p.spare-clear in
+    let range = in_force_range b u.store p.spare_clear in
     record {
       well_formed = accepted_well_formed p.catalogue;
-      store-fits = store_long b _ p.fit.store-fits;
-      work-fits = work-long b _ p.fit.work-fits;
-      list-fits = list-long b _ p.fit.list-fits;
-      withdrawn-whole = p.fit.withdrawn-whole;
-      added-whole = p.fit.added-whole;
+      store_fits = store_long b _ p.fit.store_fits;
+      work_fits = work_long b _ p.fit.work_fits;
+      list_fits_lem = list_long b _ p.fit.list_fits_lem;
+      withdrawn_whole = p.fit.withdrawn_whole;
+      added_whole = p.fit.added_whole;
       once = p.once;
-      clear = p.spare-clear;
-      few = axioms-few b F p.limit-kept;
+      clear = p.spare_clear;
+      few = axioms_few b F p.limit_kept;
       numbers = p.numbers;
       all_there = there;
       all_new = out;
-      after-few = axioms-few b (edited F withdrawn added) room;
+      after_few = axioms_few b (edited F withdrawn added) room;
       range = range;
-      after-range = edited_in_range b withdrawn added (whole_long (length withdrawn) p.fit.withdrawn-whole).1 p.numbers F range;
+      after_range = edited_in_range b withdrawn added (whole_long (length withdrawn) p.fit.withdrawn_whole).1 p.numbers F range;
     }
 
 -- ---- read off a store
 
 -- Of a store that marks F, at most 4,096 axioms, they are those of lengths, lists and F.
-pub asked-by-axioms : {S : Expression → Type 0} (b : List ℕ) (F : Axioms) (withdrawn added : List ℕ) (u : Lent) → Marked b F S u.store → axiom_count b F ≤ 4096
+pub asked_by_axioms : {S : Expression → Type 0} (b : List ℕ) (F : Axioms) (withdrawn added : List ℕ) (u : Lent) → Marked b F S u.store → axiom_count b F ≤ 4096
     → asked b withdrawn added u ≡ change_checks b withdrawn added (lengths u) true true F
 unfolding asked
-asked-by-axioms b F withdrawn added u marked few = changes-by-axioms b F u.store marked few withdrawn added (lengths u)
+asked_by_axioms b F withdrawn added u marked few = changes_by_axioms b F u.store marked few withdrawn added (lengths u)

@@ -20,7 +20,7 @@ use Rattle.derivation.proofs.Change.{over_none, unchanged}
 use Rattle.rules.specs.Axioms.{Axioms}
 use Rattle.rules.specs.Rules.{Expression, EL, Permits}
 use Rattle.rules.specs.Changes.{OverDeleted, NewSet, ReturnedSet, GainedSet, TouchedPartition}
-use Rattle.rules.proofs.Counts.{size_unique, empty-size}
+use Rattle.rules.proofs.Counts.{size_unique, empty_size}
 use Rattle.layout.specs.Parts.{used, in_force, held, spare_clear}
 use Rattle.store.specs.Fresh.{Marked}
 use Rattle.store.specs.Checks.{axioms_in_limit, ask_store, ask_work, ask_list, ask_spare, ask_limit, ask_numbers}
@@ -33,30 +33,30 @@ use Rattle.change_contract.specs.Lists.{axioms_in, sides_below, sides_in, edited
 use Rattle.change_contract.specs.Questions.{Lengths, is_whole, none_twice, all_in_force, none_in_force, ask_whole, ask_twice, ask_in_force, ask_new, ask_room, length_checks, axiom_checks, content_checks, change_checks}
 use Rattle.change_contract.specs.Edits.{Members, Effects, Lent, lengths, asked, Edits}
 use Rattle.change_contract.specs.Empty.{buffer_checks, Unchanged}
-use Rattle.change_contract.proofs.Rests.{ask-rest}
-use Rattle.change_contract.proofs.Lists.{lacking-none, having-none, edited_steps}
-use Rattle.change_contract.proofs.Checks.{Accepted, edit-accepted}
+use Rattle.change_contract.proofs.Rests.{ask_rest}
+use Rattle.change_contract.proofs.Lists.{lacking_none, having_none, edited_steps}
+use Rattle.change_contract.proofs.Checks.{Accepted, edit_accepted}
 use Rattle.change_contract.proofs.Members.{member_exact}
-use Rattle.change_contract.proofs.Sets.{marked-same}
-use Rattle.change_contract.proofs.Unique.{accepted-answer}
+use Rattle.change_contract.proofs.Sets.{marked_same}
+use Rattle.change_contract.proofs.Unique.{accepted_answer}
 
 -- ---- the axioms and the questions
 
-pub none-edited : (F : Axioms) → edited F [] [] ≡ F
+pub none_edited : (F : Axioms) → edited F [] [] ≡ F
 unfolding axioms_in
-none-edited F = edited_steps F [] [] ∙ having-none _ [] ∙ lacking-none F []
+none_edited F = edited_steps F [] [] ∙ having_none _ [] ∙ lacking_none F []
 
 -- 22, 23, 15, 18 and 16 are answered yes, and 17 as well, where 14 is.
-pub empty-asks : (b : List ℕ) (lent : Lengths) (clear few : Bool) (F : Axioms) → (few ≡ true → axioms_in_limit b F ≡ true)
+pub empty_asks : (b : List ℕ) (lent : Lengths) (clear few : Bool) (F : Axioms) → (few ≡ true → axioms_in_limit b F ≡ true)
     → change_checks b [] [] lent clear few F ≡ buffer_checks b lent clear few accepted
 unfolding change_checks length_checks content_checks axiom_checks buffer_checks ask_whole ask_twice ask_limit ask_numbers ask_in_force ask_new ask_room is_whole none_twice all_in_force none_in_force axioms_in sides_in sides_below some_below each ask
-empty-asks b lent clear few F limit =
+empty_asks b lent clear few F limit =
     ap (λ (o : Outcome). catalogue_checks b (ask_store b lent.store (ask_work b lent.work (ask_list b lent.list (ask_spare clear o)))))
-    (ap (λ (G : Axioms). ask_limit few (ask_room b G accepted)) (none-edited F) ∙ ask-rest few 14 0 (λ e. ask_yes 17 0 accepted (limit e)))
+    (ap (λ (G : Axioms). ask_limit few (ask_room b G accepted)) (none_edited F) ∙ ask_rest few 14 0 (λ e. ask_yes 17 0 accepted (limit e)))
 
-pub empty-asked : (b : List ℕ) (u : Lent) → asked b [] [] u ≡ buffer_checks b (lengths u) (spare_clear b u.store) (axioms_in_limit b (in_force b u.store)) accepted
+pub empty_asked : (b : List ℕ) (u : Lent) → asked b [] [] u ≡ buffer_checks b (lengths u) (spare_clear b u.store) (axioms_in_limit b (in_force b u.store)) accepted
 unfolding asked
-empty-asked b u = empty-asks b (lengths u) (spare_clear b u.store) _ (in_force b u.store) (λ e. e)
+empty_asked b u = empty_asks b (lengths u) (spare_clear b u.store) _ (in_force b u.store) (λ e. e)
 
 -- ---- nothing changes
 
@@ -70,30 +70,30 @@ module _ (b : List ℕ) (F : Axioms) (H : Expression → Type 0) where
   none_over : (e : Expression) → ¬ (OverDeleted b F F H e)
   none_over e = over_none (EL b) (Permits b F) (Permits b F) H (λ i p. p)
 
-  pub new-set-held : (e : Expression) → NewSet b F F H e ↔ H e
-  new-set-held = unchanged (EL b) (Permits b F) (Permits b F) H (λ i. Iff.rfl)
+  pub new_set_held : (e : Expression) → NewSet b F F H e ↔ H e
+  new_set_held = unchanged (EL b) (Permits b F) (Permits b F) H (λ i. Iff.rfl)
 
-  none-gained : (e : Expression) → ¬ (GainedSet b F F H e)
-  none-gained e g = g.1 ((new-set-held e).0 g.0)
+  none_gained : (e : Expression) → ¬ (GainedSet b F F H e)
+  none_gained e g = g.1 ((new_set_held e).0 g.0)
 
-  none-touched : (c : ℕ) → ¬ (TouchedPartition b F F H c)
-  none-touched c (inl o) = none_over o.0 o.1
-  none-touched c (inr g) = none-gained g.0 g.1
+  none_touched : (c : ℕ) → ¬ (TouchedPartition b F F H c)
+  none_touched c (inl o) = none_over o.0 o.1
+  none_touched c (inr g) = none_gained g.0 g.1
 
   pub no_effects : (names : List ℕ) (a : Changed) → outcome_of a ≡ accepted → Effects b F F H names a → (a ≡ Done 0 0 0 0) × (names ≡ [])
   no_effects names a ok p =
-      let named : names ≡ [] = none_named (concepts b) (TouchedPartition b F F H) names p.listed none-touched in (
-        accepted-answer a ok
-            (size_unique b (OverDeleted b F F H) (removed_of a) 0 p.removed-counted (empty-size b (OverDeleted b F F H) none_over))
-            (size_unique b (ReturnedSet b F F H) (returned_of a) 0 p.returned-counted (empty-size b (ReturnedSet b F F H) (λ e o. none_over e o.0)))
-            (size_unique b (GainedSet b F F H) (gained_of a) 0 p.gained-counted (empty-size b (GainedSet b F F H) none-gained))
-            (p.touched-counted ∙ ap length named),
+      let named : names ≡ [] = none_named (concepts b) (TouchedPartition b F F H) names p.listed none_touched in (
+        accepted_answer a ok
+            (size_unique b (OverDeleted b F F H) (removed_of a) 0 p.removed_counted (empty_size b (OverDeleted b F F H) none_over))
+            (size_unique b (ReturnedSet b F F H) (returned_of a) 0 p.returned_counted (empty_size b (ReturnedSet b F F H) (λ e o. none_over e o.0)))
+            (size_unique b (GainedSet b F F H) (gained_of a) 0 p.gained_counted (empty_size b (GainedSet b F F H) none_gained))
+            (p.touched_counted ∙ ap length named),
         named,
       )
 
-front-none : (list : List ℕ) → with_front [] list ≡ list
+front_none : (list : List ℕ) → with_front [] list ≡ list
 unfolding with_front bytes_of
-front-none list = refl
+front_none list = refl
 
 module _ (b : List ℕ) (u : Lent) (a : Changed) (v : Lent) (p : Edits b [] [] u a v) (ok : asked b [] [] u ≡ accepted) where
   abbrev F : Axioms
@@ -104,24 +104,24 @@ module _ (b : List ℕ) (u : Lent) (a : Changed) (v : Lent) (p : Edits b [] [] u
 
   marks : Marked b F H v.store
   marks =
-      marked-same b F (NewSet b F F H) H v.store (new-set-held b F H)
-      (subst (λ (G : Axioms). Marked b G (NewSet b F G H) v.store) (none-edited F) (p.accepts ok).marked)
+      marked_same b F (NewSet b F F H) H v.store (new_set_held b F H)
+      (subst (λ (G : Axioms). Marked b G (NewSet b F G H) v.store) (none_edited F) (p.accepts ok).marked)
 
   pub empty_unchanged : Unchanged b u a v
   empty_unchanged =
       let x = p.accepts ok in
-      let c : Accepted b [] [] u = edit-accepted b [] [] u ok in
-      let (answers, named) = no_effects b F H x.names a x.answers (subst (λ (G : Axioms). Effects b F G H x.names a) (none-edited F) x.effects) in
+      let c : Accepted b [] [] u = edit_accepted b [] [] u ok in
+      let (answers, named) = no_effects b F H x.names a x.answers (subst (λ (G : Axioms). Effects b F G H x.names a) (none_edited F) x.effects) in
       record {
         answers = answers;
         held_same = λ e. agree (held b v.store e) (held b u.store e) (marks.set e).0 (marks.set e).1;
-        axioms-same = marks.axioms;
-        store-rest = x.store-rest;
-        work-zero = x.work-zero;
-        list_same = x.list-is ∙ ap (λ (names : List ℕ). with_front names u.list) named ∙ front-none u.list;
+        axioms_same = marks.axioms;
+        store_rest = x.store_rest;
+        work_zero = x.work_zero;
+        list_same = x.list_is ∙ ap (λ (names : List ℕ). with_front names u.list) named ∙ front_none u.list;
         store_same = λ bytes.
-            let before : Marked b F H u.store = record { long = c.store-fits; axioms = λ c d. refl; set = λ e. Iff.rfl; spare = c.clear; bytes = bytes } in
+            let before : Marked b F H u.store = record { long = c.store_fits; axioms = λ c d. refl; set = λ e. Iff.rfl; spare = c.clear; bytes = bytes } in
             sym (take-append-drop (used b) v.store)
-            ∙ ap₂ ◌++◌ (marked_unique b F H v.store u.store c.well_formed marks before) x.store-rest
+            ∙ ap₂ ◌++◌ (marked_unique b F H v.store u.store c.well_formed marks before) x.store_rest
             ∙ take-append-drop (used b) u.store;
       }

@@ -19,29 +19,29 @@ use Rattle.store.specs.Written.{axiom_count}
 use Rattle.store.specs.Checks.{numbers_below}
 use Rattle.store.proofs.Checks.{every_two}
 use Rattle.store.proofs.Records.{word_first, word-second}
-use Rattle.store.proofs.AxiomCounts.{added-count, withdrawn-count}
+use Rattle.store.proofs.AxiomCounts.{added_count, withdrawn_count}
 use Rattle.change_contract.specs.Lists.{axioms_in, left_in, right_in, among, listed, sides_below, sides_in, edited}
 use Rattle.change_contract.specs.Questions.{is_whole, repeats, none_twice, all_in_force, none_in_force}
 
 -- ---- who is on a list
 
-pub among-exact : (list : List ℕ) (k c d : ℕ) → (among list k c d ≡ true) ↔ ((j : ℕ) × (j < k) × (left_in list j ≡ c) × (right_in list j ≡ d))
+pub among_exact : (list : List ℕ) (k c d : ℕ) → (among list k c d ≡ true) ↔ ((j : ℕ) × (j < k) × (left_in list j ≡ c) × (right_in list j ≡ d))
 unfolding among
-among-exact list k c d = (
+among_exact list k c d = (
   λ e.
       let (j, l, t) = some_which (λ j. eqb (left_in list j) c && eqb (right_in list j) d) k e in
       (j, l, eqb-true (left_in list j) c (and_left (eqb (left_in list j) c) (eqb (right_in list j) d) t), eqb-true (right_in list j) d (and_right (eqb (left_in list j) c) (eqb (right_in list j) d) t)),
   λ (j, l, x, y). some_at (λ j. eqb (left_in list j) c && eqb (right_in list j) d) k j l (and_both (eqb (left_in list j) c) (eqb (right_in list j) d) (eq-eqb (left_in list j) c x) (eq-eqb (right_in list j) d y)),
 )
 
-pub listed-exact : (list : List ℕ) (c d : ℕ) → (listed list c d ≡ true) ↔ ((j : ℕ) × (j < axioms_in list) × (left_in list j ≡ c) × (right_in list j ≡ d))
+pub listed_exact : (list : List ℕ) (c d : ℕ) → (listed list c d ≡ true) ↔ ((j : ℕ) × (j < axioms_in list) × (left_in list j ≡ c) × (right_in list j ≡ d))
 unfolding listed
-listed-exact list c d = among-exact list (axioms_in list) c d
+listed_exact list c d = among_exact list (axioms_in list) c d
 
 -- In force after a change: in force before and not withdrawn, or added.
-pub edited-exact : (F : Axioms) (withdrawn added : List ℕ) (c d : ℕ) → (edited F withdrawn added c d ≡ true) ↔ (((F c d ≡ true) × ¬ (listed withdrawn c d ≡ true)) ⊎ (listed added c d ≡ true))
+pub edited_exact : (F : Axioms) (withdrawn added : List ℕ) (c d : ℕ) → (edited F withdrawn added c d ≡ true) ↔ (((F c d ≡ true) × ¬ (listed withdrawn c d ≡ true)) ⊎ (listed added c d ≡ true))
 unfolding edited
-edited-exact F withdrawn added c d = (
+edited_exact F withdrawn added c d = (
   λ e.
       ⊎_elim (λ h. inl (and_left (F c d) (not (listed withdrawn c d)) h, (negated (listed withdrawn c d)).0 (and_right (F c d) (not (listed withdrawn c d)) h))) inr
       ((either (F c d && not (listed withdrawn c d)) (listed added c d)).0 e),
@@ -93,8 +93,8 @@ first_part withdrawn added whole =
       right_there = λ k l. ap (right_in (withdrawn ++ added)) (at k) ∙ right-first withdrawn added whole k l;
     }
 
-second-part : (withdrawn added : List ℕ) → length withdrawn % 4 ≡ 0 → Part added (withdrawn ++ added) (axioms_in withdrawn)
-second-part withdrawn added whole =
+second_part : (withdrawn added : List ℕ) → length withdrawn % 4 ≡ 0 → Part added (withdrawn ++ added) (axioms_in withdrawn)
+second_part withdrawn added whole =
     record {
       within = omega (arith, axioms_together withdrawn added whole);
       left_there = λ k l. left-second withdrawn added whole k;
@@ -102,15 +102,15 @@ second-part withdrawn added whole =
     }
 
 -- No axiom twice in the whole, and so in no part of it.
-part-once : (list all : List ℕ) (p : ℕ) → Part list all p → none_twice all ≡ true → (k : ℕ) → k < axioms_in list → among list k (left_in list k) (right_in list k) ≡ false
+part_once : (list all : List ℕ) (p : ℕ) → Part list all p → none_twice all ≡ true → (k : ℕ) → k < axioms_in list → among list k (left_in list k) (right_in list k) ≡ false
 unfolding none_twice repeats
-part-once list all p part e k l =
+part_once list all p part e k l =
     not_true_false _
     (λ t.
-    let (j, lj, x, y) = (among-exact list k (left_in list k) (right_in list k)).0 t in
+    let (j, lj, x, y) = (among_exact list k (left_in list k) (right_in list k)).0 t in
     let lj' : j < axioms_in list = omega arith in
     not-both
-    ((among-exact all (p + k) (left_in all (p + k)) (right_in all (p + k))).1
+    ((among_exact all (p + k) (left_in all (p + k)) (right_in all (p + k))).1
     (p + j, omega arith, part.left_there j lj' ∙ x ∙ sym (part.left_there k l), part.right_there j lj' ∙ y ∙ sym (part.right_there k l)))
     (none_below (repeats all) (axioms_in all) (p + k) (not-true _ e) (omega (arith, part.within))))
 
@@ -128,43 +128,43 @@ pushed false true = refl
 pushed false false = refl
 
 -- All sides of the first k axioms pass a test, or one of these axioms has a side that does not.
-pub sides-some : (test : ℕ → Bool) (list : List ℕ) (k : ℕ) → each test (sides_below list k) ≡ not (some_below (λ j. not (test (left_in list j) && test (right_in list j))) k)
+pub sides_some : (test : ℕ → Bool) (list : List ℕ) (k : ℕ) → each test (sides_below list k) ≡ not (some_below (λ j. not (test (left_in list j) && test (right_in list j))) k)
 unfolding sides_below some_below each
-sides-some test list zero = refl
-sides-some test list (suc k) =
+sides_some test list zero = refl
+sides_some test list (suc k) =
     each_append test (sides_below list k) (left_in list k ∷ right_in list k ∷ [])
-    ∙ ap₂ ◌&&◌ (sides-some test list k) (every_two test (left_in list k) (right_in list k))
+    ∙ ap₂ ◌&&◌ (sides_some test list k) (every_two test (left_in list k) (right_in list k))
     ∙ pushed _ (test (left_in list k) && test (right_in list k))
 
-sides-below : (b list : List ℕ) → numbers_below b (sides_in list) ≡ true → (k : ℕ) → k < axioms_in list → (left_in list k < concepts b) × (right_in list k < concepts b)
+sides_below_lem : (b list : List ℕ) → numbers_below b (sides_in list) ≡ true → (k : ℕ) → k < axioms_in list → (left_in list k < concepts b) × (right_in list k < concepts b)
 unfolding sides_in
-sides-below b list e k l =
+sides_below_lem b list e k l =
     let test : ℕ → Bool = λ c. ltb c (concepts b) in
-    let some = not-true _ (sym (sides-some test list (axioms_in list)) ∙ e) in
+    let some = not-true _ (sym (sides_some test list (axioms_in list)) ∙ e) in
     let both = not-false _ (none_below (λ j. not (test (left_in list j) && test (right_in list j))) (axioms_in list) k some l) in
     (ltb-true _ _ (and_left (test (left_in list k)) (test (right_in list k)) both), ltb-true _ _ (and_right (test (left_in list k)) (test (right_in list k)) both))
 
-part-below : (b list all : List ℕ) (p : ℕ) → Part list all p → numbers_below b (sides_in all) ≡ true
+part_below : (b list all : List ℕ) (p : ℕ) → Part list all p → numbers_below b (sides_in all) ≡ true
     → (k : ℕ) → k < axioms_in list → (left_in list k < concepts b) × (right_in list k < concepts b)
-part-below b list all p part numbers k l =
-    let (x, y) = sides-below b all numbers (p + k) (omega (arith, part.within)) in
+part_below b list all p part numbers k l =
+    let (x, y) = sides_below_lem b all numbers (p + k) (omega (arith, part.within)) in
     (subst (λ (c : ℕ). c < concepts b) (part.left_there k l) x, subst (λ (c : ℕ). c < concepts b) (part.right_there k l) y)
 
 module _ (b withdrawn added : List ℕ) (whole : length withdrawn % 4 ≡ 0) (numbers : numbers_below b (sides_in (withdrawn ++ added)) ≡ true) where
-  pub withdrawn-below : (k : ℕ) → k < axioms_in withdrawn → (left_in withdrawn k < concepts b) × (right_in withdrawn k < concepts b)
-  withdrawn-below = part-below b withdrawn (withdrawn ++ added) 0 (first_part withdrawn added whole) numbers
+  pub withdrawn_below : (k : ℕ) → k < axioms_in withdrawn → (left_in withdrawn k < concepts b) × (right_in withdrawn k < concepts b)
+  withdrawn_below = part_below b withdrawn (withdrawn ++ added) 0 (first_part withdrawn added whole) numbers
 
-  pub added-below : (k : ℕ) → k < axioms_in added → (left_in added k < concepts b) × (right_in added k < concepts b)
-  added-below = part-below b added (withdrawn ++ added) (axioms_in withdrawn) (second-part withdrawn added whole) numbers
+  pub added_below : (k : ℕ) → k < axioms_in added → (left_in added k < concepts b) × (right_in added k < concepts b)
+  added_below = part_below b added (withdrawn ++ added) (axioms_in withdrawn) (second_part withdrawn added whole) numbers
 
   pub edited_in_range : (F : Axioms) → InRange b F → InRange b (edited F withdrawn added)
   edited_in_range F range c d e =
       ⊎_elim (λ (f, n). range c d f)
       (λ h.
-      let (j, l, x, y) = (listed-exact added c d).0 h in
-      let (p, q) = added-below j l in
+      let (j, l, x, y) = (listed_exact added c d).0 h in
+      let (p, q) = added_below j l in
       (subst (λ (k : ℕ). k < concepts b) x p, subst (λ (k : ℕ). k < concepts b) y q))
-      ((edited-exact F withdrawn added c d).0 e)
+      ((edited_exact F withdrawn added c d).0 e)
 
 -- ---- how many
 
@@ -173,9 +173,9 @@ pub in_force_at : (F : Axioms) (list : List ℕ) → all_in_force F list ≡ tru
 unfolding all_in_force
 in_force_at F list e k l = not-false _ (none_below (λ k. not (F (left_in list k) (right_in list k))) (axioms_in list) k (not-true _ e) l)
 
-pub new-at : (F : Axioms) (list : List ℕ) → none_in_force F list ≡ true → (k : ℕ) → k < axioms_in list → F (left_in list k) (right_in list k) ≡ false
+pub new_at_lem : (F : Axioms) (list : List ℕ) → none_in_force F list ≡ true → (k : ℕ) → k < axioms_in list → F (left_in list k) (right_in list k) ≡ false
 unfolding none_in_force
-new-at F list e k l = none_below (λ k. F (left_in list k) (right_in list k)) (axioms_in list) k (not-true _ e) l
+new_at_lem F list e k l = none_below (λ k. F (left_in list k) (right_in list k)) (axioms_in list) k (not-true _ e) l
 
 -- F without the first k axioms of a list, and with them: one less and one more at each step.
 unfoldable pub lacking : Axioms → List ℕ → ℕ → Axioms
@@ -198,21 +198,21 @@ one_more false true false = refl
 one_more false false true = refl
 one_more false false false = refl
 
-pub lacking-step : (F : Axioms) (list : List ℕ) (k : ℕ) → lacking F list (suc k) ≡ withdrawn (lacking F list k) (left_in list k) (right_in list k)
+pub lacking_step : (F : Axioms) (list : List ℕ) (k : ℕ) → lacking F list (suc k) ≡ withdrawn (lacking F list k) (left_in list k) (right_in list k)
 unfolding lacking among some_below withdrawn
-lacking-step F list k = fun_ext (λ c. fun_ext (λ d. one_less (F c d) (eqb (left_in list k) c && eqb (right_in list k) d) (among list k c d)))
+lacking_step F list k = fun_ext (λ c. fun_ext (λ d. one_less (F c d) (eqb (left_in list k) c && eqb (right_in list k) d) (among list k c d)))
 
-pub having-step : (F : Axioms) (list : List ℕ) (k : ℕ) → having F list (suc k) ≡ added (having F list k) (left_in list k) (right_in list k)
+pub having_step : (F : Axioms) (list : List ℕ) (k : ℕ) → having F list (suc k) ≡ added (having F list k) (left_in list k) (right_in list k)
 unfolding having among some_below added
-having-step F list k = fun_ext (λ c. fun_ext (λ d. one_more (F c d) (eqb (left_in list k) c && eqb (right_in list k) d) (among list k c d)))
+having_step F list k = fun_ext (λ c. fun_ext (λ d. one_more (F c d) (eqb (left_in list k) c && eqb (right_in list k) d) (among list k c d)))
 
-pub lacking-none : (F : Axioms) (list : List ℕ) → lacking F list 0 ≡ F
+pub lacking_none : (F : Axioms) (list : List ℕ) → lacking F list 0 ≡ F
 unfolding lacking among some_below
-lacking-none F list = fun_ext (λ c. fun_ext (λ d. and-true (F c d)))
+lacking_none F list = fun_ext (λ c. fun_ext (λ d. and-true (F c d)))
 
-pub having-none : (F : Axioms) (list : List ℕ) → having F list 0 ≡ F
+pub having_none : (F : Axioms) (list : List ℕ) → having F list 0 ≡ F
 unfolding having among some_below
-having-none F list = fun_ext (λ c. fun_ext (λ d. or-false (F c d)))
+having_none F list = fun_ext (λ c. fun_ext (λ d. or-false (F c d)))
 
 pub edited_steps : (F : Axioms) (withdrawn added : List ℕ) → edited F withdrawn added ≡ having (lacking F withdrawn (axioms_in withdrawn)) added (axioms_in added)
 unfolding edited having lacking listed
@@ -224,37 +224,37 @@ module _ (b : List ℕ) (F : Axioms) (list : List ℕ) (below : (k : ℕ) → k 
   unfolding lacking
   still_there there k l = and_both (F (left_in list k) (right_in list k)) (not (among list k (left_in list k) (right_in list k))) (there k l) (ap not (once k l))
 
-  lacking-count : ((k : ℕ) → k < axioms_in list → F (left_in list k) (right_in list k) ≡ true) → (k : ℕ) → k ≤ axioms_in list → axiom_count b (lacking F list k) + k ≡ axiom_count b F
-  lacking-count there zero l = ap (λ (G : Axioms). axiom_count b G + 0) (lacking-none F list) ∙ (let z : axiom_count b F + 0 ≡ axiom_count b F = omega arith in z)
-  lacking-count there (suc k) l =
+  lacking_count : ((k : ℕ) → k < axioms_in list → F (left_in list k) (right_in list k) ≡ true) → (k : ℕ) → k ≤ axioms_in list → axiom_count b (lacking F list k) + k ≡ axiom_count b F
+  lacking_count there zero l = ap (λ (G : Axioms). axiom_count b G + 0) (lacking_none F list) ∙ (let z : axiom_count b F + 0 ≡ axiom_count b F = omega arith in z)
+  lacking_count there (suc k) l =
       let (x, y) = below k (omega arith) in
-      let before = lacking-count there k (omega arith) in
-      let one = withdrawn-count b (lacking F list k) (left_in list k) (right_in list k) x y (still_there there k (omega arith)) in
-      omega (arith, ap (axiom_count b) (lacking-step F list k), one, before)
+      let before = lacking_count there k (omega arith) in
+      let one = withdrawn_count b (lacking F list k) (left_in list k) (right_in list k) x y (still_there there k (omega arith)) in
+      omega (arith, ap (axiom_count b) (lacking_step F list k), one, before)
 
   not_yet_there : ((k : ℕ) → k < axioms_in list → F (left_in list k) (right_in list k) ≡ false) → (k : ℕ) → k < axioms_in list → having F list k (left_in list k) (right_in list k) ≡ false
   unfolding having
   not_yet_there out k l = ap₂ ◌||◌ (out k l) (once k l)
 
-  having-count : ((k : ℕ) → k < axioms_in list → F (left_in list k) (right_in list k) ≡ false) → (k : ℕ) → k ≤ axioms_in list → axiom_count b (having F list k) ≡ axiom_count b F + k
-  having-count out zero l = ap (axiom_count b) (having-none F list) ∙ (let z : axiom_count b F ≡ axiom_count b F + 0 = omega arith in z)
-  having-count out (suc k) l =
+  having_count : ((k : ℕ) → k < axioms_in list → F (left_in list k) (right_in list k) ≡ false) → (k : ℕ) → k ≤ axioms_in list → axiom_count b (having F list k) ≡ axiom_count b F + k
+  having_count out zero l = ap (axiom_count b) (having_none F list) ∙ (let z : axiom_count b F ≡ axiom_count b F + 0 = omega arith in z)
+  having_count out (suc k) l =
       let (x, y) = below k (omega arith) in
-      let before = having-count out k (omega arith) in
-      let one = added-count b (having F list k) (left_in list k) (right_in list k) x y (not_yet_there out k (omega arith)) in
-      omega (arith, ap (axiom_count b) (having-step F list k), one, before)
+      let before = having_count out k (omega arith) in
+      let one = added_count b (having F list k) (left_in list k) (right_in list k) x y (not_yet_there out k (omega arith)) in
+      omega (arith, ap (axiom_count b) (having_step F list k), one, before)
 
 left_out : (F : Axioms) (withdrawn added : List ℕ) (k : ℕ) → F (left_in added k) (right_in added k) ≡ false → lacking F withdrawn (axioms_in withdrawn) (left_in added k) (right_in added k) ≡ false
 unfolding lacking
 left_out F withdrawn added k e = ap (λ (x : Bool). x && not (among withdrawn (axioms_in withdrawn) (left_in added k) (right_in added k))) e
 
 -- So many are in force after a change that passes 22, 23, 15, 18 and 16.
-pub edited-count : (b : List ℕ) (F : Axioms) (withdrawn added : List ℕ) → length withdrawn % 4 ≡ 0 → none_twice (withdrawn ++ added) ≡ true → numbers_below b (sides_in (withdrawn ++ added)) ≡ true
+pub edited_count : (b : List ℕ) (F : Axioms) (withdrawn added : List ℕ) → length withdrawn % 4 ≡ 0 → none_twice (withdrawn ++ added) ≡ true → numbers_below b (sides_in (withdrawn ++ added)) ≡ true
     → all_in_force F withdrawn ≡ true → none_in_force F added ≡ true → axiom_count b (edited F withdrawn added) + axioms_in withdrawn ≡ axiom_count b F + axioms_in added
-edited-count b F withdrawn added whole once numbers there out =
-    let less = lacking-count b F withdrawn (withdrawn-below b withdrawn added whole numbers) (part-once withdrawn (withdrawn ++ added) 0 (first_part withdrawn added whole) once) (in_force_at F withdrawn there) (axioms_in withdrawn) (omega arith) in
+edited_count b F withdrawn added whole once numbers there out =
+    let less = lacking_count b F withdrawn (withdrawn_below b withdrawn added whole numbers) (part_once withdrawn (withdrawn ++ added) 0 (first_part withdrawn added whole) once) (in_force_at F withdrawn there) (axioms_in withdrawn) (omega arith) in
     let W = lacking F withdrawn (axioms_in withdrawn) in
     let more =
-    having-count b W added (added-below b withdrawn added whole numbers) (part-once added (withdrawn ++ added) (axioms_in withdrawn) (second-part withdrawn added whole) once) (λ k l. left_out F withdrawn added k (new-at F added out k l)) (axioms_in added) (omega arith)
+    having_count b W added (added_below b withdrawn added whole numbers) (part_once added (withdrawn ++ added) (axioms_in withdrawn) (second_part withdrawn added whole) once) (λ k l. left_out F withdrawn added k (new_at_lem F added out k l)) (axioms_in added) (omega arith)
     in
     omega (arith, ap (axiom_count b) (edited_steps F withdrawn added), less, more)

@@ -78,6 +78,6 @@ on_list [] c e = absurd (false≢true e)
 on_list (x ∷ names) c e =
     ⊎_elim (λ h. mathlib.Core.List.Memᴰ.head (sym (eqb-true x c h))) (λ h. mathlib.Core.List.Memᴰ.tail (on_list names c h)) ((either (eqb x c) (some (λ x. eqb x c) names)).0 e)
 
-pub on-list-exact : (names : List ℕ) (c : ℕ) → (on_list names c ≡ true) ↔ Memᴰ c names
+pub on_list_exact : (names : List ℕ) (c : ℕ) → (on_list names c ≡ true) ↔ Memᴰ c names
 unfolding on_list
-on-list-exact names c = (on_list names c, λ m. true_some (λ x. eqb x c) names c m (eq-eqb c c refl))
+on_list_exact names c = (on_list names c, λ m. true_some (λ x. eqb x c) names c m (eq-eqb c c refl))

@@ -8,15 +8,15 @@ use Rattle.catalogue.specs.Outcome.{Outcome, ask}
 use Rattle.store.specs.Checks.{ask_store, ask_work, ask_list}
 use Rattle.change_contract.specs.Questions.{Lengths, is_whole, ask_whole, length_checks}
 
-pub ask-rest : (t : Bool) (number at : ℕ) {one other : Outcome} → (t ≡ true → one ≡ other) → ask t number at one ≡ ask t number at other
+pub ask_rest : (t : Bool) (number at : ℕ) {one other : Outcome} → (t ≡ true → one ≡ other) → ask t number at one ≡ ask t number at other
 unfolding ask
-ask-rest true number at same = same refl
-ask-rest false number at same = refl
+ask_rest true number at same = same refl
+ask_rest false number at same = refl
 
 -- What follows 22, where both lists are whole.
-pub lengths-rest : (b : List ℕ) (withdrawn added : ℕ) (lent : Lengths) {one other : Outcome} → (is_whole withdrawn ≡ true → is_whole added ≡ true → one ≡ other)
+pub lengths_rest : (b : List ℕ) (withdrawn added : ℕ) (lent : Lengths) {one other : Outcome} → (is_whole withdrawn ≡ true → is_whole added ≡ true → one ≡ other)
     → length_checks b withdrawn added lent one ≡ length_checks b withdrawn added lent other
 unfolding length_checks ask_whole
-lengths-rest b withdrawn added lent same =
+lengths_rest b withdrawn added lent same =
     ap (λ (o : Outcome). ask_store b lent.store (ask_work b lent.work (ask_list b lent.list o)))
-    (ask-rest (is_whole withdrawn && is_whole added) 22 0 (λ w. same (and_left (is_whole withdrawn) (is_whole added) w) (and_right (is_whole withdrawn) (is_whole added) w)))
+    (ask_rest (is_whole withdrawn && is_whole added) 22 0 (λ w. same (and_left (is_whole withdrawn) (is_whole added) w) (and_right (is_whole withdrawn) (is_whole added) w)))

@@ -7,7 +7,7 @@ use Rattle.catalogue.specs.Header.{concepts}
 use Rattle.rules.specs.Axioms.{Axioms}
 use Rattle.rules.specs.Rules.{Expression, EL, Permits}
 use Rattle.rules.specs.Changes.{OverDeleted, NewSet, ReturnedSet, GainedSet, GainingPartition, TouchedPartition}
-use Rattle.rules.proofs.Changes.{over-same, broken-same, after_same}
+use Rattle.rules.proofs.Changes.{over_same, broken_same, after_same}
 use Rattle.rules.proofs.Counts.{size_same}
 use Rattle.store.specs.Fresh.{Marked}
 use Rattle.change_contract.specs.declared.Changed.{Changed}
@@ -15,8 +15,8 @@ use Rattle.change_contract.specs.Answers.{removed_of, returned_of, gained_of}
 use Rattle.change_contract.specs.Edits.{Effects}
 use Rattle.change_contract.proofs.Members.{members_same}
 
-pub marked-same : (b : List ℕ) (F : Axioms) (S T : Expression → Type 0) (store : List ℕ) → ((e : Expression) → S e ↔ T e) → Marked b F S store → Marked b F T store
-marked-same b F S T store same p =
+pub marked_same : (b : List ℕ) (F : Axioms) (S T : Expression → Type 0) (store : List ℕ) → ((e : Expression) → S e ↔ T e) → Marked b F S store → Marked b F T store
+marked_same b F S T store same p =
     record {
       long = p.long;
       axioms = p.axioms;
@@ -26,37 +26,37 @@ marked-same b F S T store same p =
     }
 
 module _ (b : List ℕ) (F G : Axioms) (H K : Expression → Type 0) (same : (e : Expression) → H e ↔ K e) where
-  gaining-same : (c : ℕ) → GainingPartition b F G H c → GainingPartition b F G K c
-  gaining-same c (e, g, p) = (e, (after_same (EL b) (Permits b F) (Permits b G) H K same g.0, λ k. g.1 ((same e).1 k)), p)
+  gaining_same : (c : ℕ) → GainingPartition b F G H c → GainingPartition b F G K c
+  gaining_same c (e, g, p) = (e, (after_same (EL b) (Permits b F) (Permits b G) H K same g.0, λ k. g.1 ((same e).1 k)), p)
 
-  touched-same : (c : ℕ) → TouchedPartition b F G H c → TouchedPartition b F G K c
-  touched-same c (inl o) = inl (broken-same (EL b) (Permits b F) (Permits b G) H K same o)
-  touched-same c (inr g) = inr (gaining-same c g)
+  touched_same : (c : ℕ) → TouchedPartition b F G H c → TouchedPartition b F G K c
+  touched_same c (inl o) = inl (broken_same (EL b) (Permits b F) (Permits b G) H K same o)
+  touched_same c (inr g) = inr (gaining_same c g)
 
 module _ (b : List ℕ) (F G : Axioms) (H K : Expression → Type 0) (same : (e : Expression) → H e ↔ K e) where
   back : (e : Expression) → K e ↔ H e
   back e = ((same e).1, (same e).0)
 
-  removed-same : (e : Expression) → OverDeleted b F G H e ↔ OverDeleted b F G K e
-  removed-same e = (over-same (EL b) (Permits b F) (Permits b G) H K same, over-same (EL b) (Permits b F) (Permits b G) K H back)
+  removed_same : (e : Expression) → OverDeleted b F G H e ↔ OverDeleted b F G K e
+  removed_same e = (over_same (EL b) (Permits b F) (Permits b G) H K same, over_same (EL b) (Permits b F) (Permits b G) K H back)
 
-  pub new-set-same : (e : Expression) → NewSet b F G H e ↔ NewSet b F G K e
-  new-set-same e = (after_same (EL b) (Permits b F) (Permits b G) H K same, after_same (EL b) (Permits b F) (Permits b G) K H back)
+  pub new_set_same : (e : Expression) → NewSet b F G H e ↔ NewSet b F G K e
+  new_set_same e = (after_same (EL b) (Permits b F) (Permits b G) H K same, after_same (EL b) (Permits b F) (Permits b G) K H back)
 
-  returned-same : (e : Expression) → ReturnedSet b F G H e ↔ ReturnedSet b F G K e
-  returned-same e = (λ x. ((removed-same e).0 x.0, (new-set-same e).0 x.1), λ x. ((removed-same e).1 x.0, (new-set-same e).1 x.1))
+  returned_same : (e : Expression) → ReturnedSet b F G H e ↔ ReturnedSet b F G K e
+  returned_same e = (λ x. ((removed_same e).0 x.0, (new_set_same e).0 x.1), λ x. ((removed_same e).1 x.0, (new_set_same e).1 x.1))
 
-  gained-same : (e : Expression) → GainedSet b F G H e ↔ GainedSet b F G K e
-  gained-same e = (λ x. ((new-set-same e).0 x.0, λ k. x.1 ((same e).1 k)), λ x. ((new-set-same e).1 x.0, λ h. x.1 ((same e).0 h)))
+  gained_same : (e : Expression) → GainedSet b F G H e ↔ GainedSet b F G K e
+  gained_same e = (λ x. ((new_set_same e).0 x.0, λ k. x.1 ((same e).1 k)), λ x. ((new_set_same e).1 x.0, λ h. x.1 ((same e).0 h)))
 
-  pub effects-same : (names : List ℕ) (a : Changed) → Effects b F G H names a → Effects b F G K names a
-  effects-same names a p =
+  pub effects_same : (names : List ℕ) (a : Changed) → Effects b F G H names a → Effects b F G K names a
+  effects_same names a p =
       record {
-        removed-counted = size_same b (OverDeleted b F G H) (OverDeleted b F G K) (removed_of a) removed-same p.removed-counted;
-        returned-counted = size_same b (ReturnedSet b F G H) (ReturnedSet b F G K) (returned_of a) returned-same p.returned-counted;
-        gained-counted = size_same b (GainedSet b F G H) (GainedSet b F G K) (gained_of a) gained-same p.gained-counted;
+        removed_counted = size_same b (OverDeleted b F G H) (OverDeleted b F G K) (removed_of a) removed_same p.removed_counted;
+        returned_counted = size_same b (ReturnedSet b F G H) (ReturnedSet b F G K) (returned_of a) returned_same p.returned_counted;
+        gained_counted = size_same b (GainedSet b F G H) (GainedSet b F G K) (gained_of a) gained_same p.gained_counted;
         listed =
-            members_same (concepts b) (TouchedPartition b F G H) (TouchedPartition b F G K) names (λ c. (touched-same b F G H K same c, touched-same b F G K H back c))
+            members_same (concepts b) (TouchedPartition b F G H) (TouchedPartition b F G K) names (λ c. (touched_same b F G H K same c, touched_same b F G K H back c))
             p.listed;
-        touched-counted = p.touched-counted;
+        touched_counted = p.touched_counted;
       }

@@ -19,18 +19,18 @@ use Rattle.change_contract.specs.declared.Changed.TheVariants.{Done, Refused}
 use Rattle.change_contract.specs.Lists.{edited}
 use Rattle.change_contract.specs.Answers.{outcome_of, removed_of, returned_of, gained_of, touched_of}
 use Rattle.change_contract.specs.Edits.{Effects, Lent, lend, asked, Edits}
-use Rattle.change_contract.proofs.Checks.{edit-accepted}
+use Rattle.change_contract.proofs.Checks.{edit_accepted}
 use Rattle.change_contract.proofs.Members.{members_unique}
 
 -- An answer is decided by its outcome and its four counts.
-pub refused-answer : (a : Changed) {number at : ℕ} → outcome_of a ≡ refused number at → a ≡ Refused number at
-refused-answer (Done removed returned gained touched) e = let z : ◌≡◌ {A = ℕ} 0 1 = cc in absurd (omega arith)
-refused-answer (Refused number at) e = cc
+pub refused_answer : (a : Changed) {number at : ℕ} → outcome_of a ≡ refused number at → a ≡ Refused number at
+refused_answer (Done removed returned gained touched) e = let z : ◌≡◌ {A = ℕ} 0 1 = cc in absurd (omega arith)
+refused_answer (Refused number at) e = cc
 
-pub accepted-answer : (a : Changed) {removed returned gained touched : ℕ} → outcome_of a ≡ accepted → removed_of a ≡ removed → returned_of a ≡ returned → gained_of a ≡ gained
+pub accepted_answer : (a : Changed) {removed returned gained touched : ℕ} → outcome_of a ≡ accepted → removed_of a ≡ removed → returned_of a ≡ returned → gained_of a ≡ gained
     → touched_of a ≡ touched → a ≡ Done removed returned gained touched
-accepted-answer (Done removed returned gained touched) e p q r s = cc
-accepted-answer (Refused number at) e p q r s = let z : ◌≡◌ {A = ℕ} 0 1 = cc in absurd (omega arith)
+accepted_answer (Done removed returned gained touched) e p q r s = cc
+accepted_answer (Refused number at) e p q r s = let z : ◌≡◌ {A = ℕ} 0 1 = cc in absurd (omega arith)
 
 -- The effects leave one list of names, and one of each count.
 module _ (b : List ℕ) (F G : Axioms) (H : Expression → Type 0) (names names' : List ℕ) (a a' : Changed) (p : Effects b F G H names a) (q : Effects b F G H names' a') where
@@ -39,23 +39,23 @@ module _ (b : List ℕ) (F G : Axioms) (H : Expression → Type 0) (names names'
 
   pub effects_unique : outcome_of a ≡ accepted → outcome_of a' ≡ accepted → (a ≡ a') × (names ≡ names')
   effects_unique e e' =
-      let removed = size_unique b (OverDeleted b F G H) (removed_of a) (removed_of a') p.removed-counted q.removed-counted in
-      let returned = size_unique b (ReturnedSet b F G H) (returned_of a) (returned_of a') p.returned-counted q.returned-counted in
-      let gained = size_unique b (GainedSet b F G H) (gained_of a) (gained_of a') p.gained-counted q.gained-counted in
-      let touched : touched_of a ≡ touched_of a' = p.touched-counted ∙ ap length names_unique ∙ sym q.touched-counted in
-      (accepted-answer a e removed returned gained touched ∙ sym (accepted-answer a' e' refl refl refl refl), names_unique)
+      let removed = size_unique b (OverDeleted b F G H) (removed_of a) (removed_of a') p.removed_counted q.removed_counted in
+      let returned = size_unique b (ReturnedSet b F G H) (returned_of a) (returned_of a') p.returned_counted q.returned_counted in
+      let gained = size_unique b (GainedSet b F G H) (gained_of a) (gained_of a') p.gained_counted q.gained_counted in
+      let touched : touched_of a ≡ touched_of a' = p.touched_counted ∙ ap length names_unique ∙ sym q.touched_counted in
+      (accepted_answer a e removed returned gained touched ∙ sym (accepted_answer a' e' refl refl refl refl), names_unique)
 
 -- Buffers are the same where each of them is.
-pub same-buffers : {u v : Lent} → u.store ≡ v.store → u.work ≡ v.work → u.list ≡ v.list → u ≡ v
-same-buffers {u} {v} s w t = ap₂ (λ (x y : List ℕ). lend x y u.list) s w ∙ ap (lend v.store v.work) t
+pub same_buffers : {u v : Lent} → u.store ≡ v.store → u.work ≡ v.work → u.list ≡ v.list → u ≡ v
+same_buffers {u} {v} s w t = ap₂ (λ (x y : List ℕ). lend x y u.list) s w ∙ ap (lend v.store v.work) t
 
 module _ (b withdrawn added : List ℕ) (u : Lent) (a a' : Changed) (v v' : Lent) (p : Edits b withdrawn added u a v) (q : Edits b withdrawn added u a' v') where
   unique_by : (o : Outcome) → asked b withdrawn added u ≡ o → (a ≡ a') × (v ≡ v')
   unique_by (refused number at) e =
       let x = p.refuses number at e in
       let y = q.refuses number at e in (
-        refused-answer a x.answers ∙ sym (refused-answer a' y.answers),
-        same-buffers (x.store_kept ∙ sym y.store_kept) (x.work-kept ∙ sym y.work-kept) (x.list-kept ∙ sym y.list-kept),
+        refused_answer a x.answers ∙ sym (refused_answer a' y.answers),
+        same_buffers (x.store_kept ∙ sym y.store_kept) (x.work_kept ∙ sym y.work_kept) (x.list_kept ∙ sym y.list_kept),
       )
   unique_by accepted e =
       let x = p.accepts e in
@@ -64,12 +64,12 @@ module _ (b withdrawn added : List ℕ) (u : Lent) (a a' : Changed) (v v' : Lent
       let G = edited F withdrawn added in
       let H = Holding (held b u.store) in
       let (same, names) = effects_unique b F G H x.names y.names a a' x.effects y.effects x.answers y.answers in
-      let front = marked_unique b G (NewSet b F G H) v.store v'.store (edit-accepted b withdrawn added u e).well_formed x.marked y.marked in (
+      let front = marked_unique b G (NewSet b F G H) v.store v'.store (edit_accepted b withdrawn added u e).well_formed x.marked y.marked in (
         same,
-        same-buffers
-            (sym (take-append-drop (used b) v.store) ∙ ap₂ ◌++◌ front (x.store-rest ∙ sym y.store-rest) ∙ take-append-drop (used b) v'.store)
-            (x.work-zero ∙ sym y.work-zero)
-            (x.list-is ∙ ap (λ (ns : List ℕ). with_front ns u.list) names ∙ sym y.list-is),
+        same_buffers
+            (sym (take-append-drop (used b) v.store) ∙ ap₂ ◌++◌ front (x.store_rest ∙ sym y.store_rest) ∙ take-append-drop (used b) v'.store)
+            (x.work_zero ∙ sym y.work_zero)
+            (x.list_is ∙ ap (λ (ns : List ℕ). with_front ns u.list) names ∙ sym y.list_is),
       )
 
   pub edit_unique : (a ≡ a') × (v ≡ v')

@@ -3,13 +3,13 @@ use mathlib.Core.Logic.{◌↔◌}
 use Rattle.derivation.specs.Systems.{System, Set, Allowed}
 use Rattle.derivation.specs.Wordings.{LeastSet, HoldsAdded, Add, HoldsWithdrawn, Withdraw}
 
-least-set-same : (Y : System) (Holds : Set Y → Type 0) (S T : Set Y) → ((e : Y.Expression) → S e ↔ T e) → (Holds S → Holds T) → LeastSet Y Holds S → LeastSet Y Holds T
-least-set-same Y Holds S T same to p = record { holds = to p.holds; least = λ X x e t. p.least X x e ((same e).1 t) }
+least_set_same : (Y : System) (Holds : Set Y → Type 0) (S T : Set Y) → ((e : Y.Expression) → S e ↔ T e) → (Holds S → Holds T) → LeastSet Y Holds S → LeastSet Y Holds T
+least_set_same Y Holds S T same to p = record { holds = to p.holds; least = λ X x e t. p.least X x e ((same e).1 t) }
 
 module _ (Y : System) (Old New : Allowed Y) (H S T : Set Y) (same : (e : Y.Expression) → S e ↔ T e) where
   pub add_same : Add Y Old New H S → Add Y Old New H T
   add_same =
-      least-set-same Y (HoldsAdded Y Old New H) S T same
+      least_set_same Y (HoldsAdded Y Old New H) S T same
       (λ p.
       record {
         held = λ e h. (same e).0 (p.held e h);
@@ -22,7 +22,7 @@ module _ (Y : System) (Old New : Allowed Y) (H S T : Set Y) (same : (e : Y.Expre
       record {
         over = w.over;
         new =
-            least-set-same Y (HoldsWithdrawn Y New H D) S T same
+            least_set_same Y (HoldsWithdrawn Y New H D) S T same
             (λ p.
             record {
               kept = λ e k. (same e).0 (p.kept e k);

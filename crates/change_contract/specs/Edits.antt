@@ -29,11 +29,11 @@ pub record Members (n : ℕ) (T : ℕ → Type 0) (names : List ℕ) : Type 0 wh
 
 -- A change from F to G, of any held set H: the sizes of what is removed, returned and gained, and the touched concepts, broken or gained, which are listed.
 pub record Effects (b : List ℕ) (F G : ℕ → ℕ → Bool) (H : Expression → Type 0) (names : List ℕ) (answer : Changed) : Type 0 where
-  pub removed-counted : Size b (OverDeleted b F G H) (removed_of answer)
-  pub returned-counted : Size b (ReturnedSet b F G H) (returned_of answer)
-  pub gained-counted : Size b (GainedSet b F G H) (gained_of answer)
+  pub removed_counted : Size b (OverDeleted b F G H) (removed_of answer)
+  pub returned_counted : Size b (ReturnedSet b F G H) (returned_of answer)
+  pub gained_counted : Size b (GainedSet b F G H) (gained_of answer)
   pub listed : Members (concepts b) (TouchedPartition b F G H) names
-  pub touched-counted : touched_of answer ≡ length names
+  pub touched_counted : touched_of answer ≡ length names
 
 -- ---- the bytes
 
@@ -57,8 +57,8 @@ asked b withdrawn added u = change_checks b withdrawn added (lengths u) (spare_c
 pub record Refuses (b : List ℕ) (number at : ℕ) (u : Lent) (answer : Changed) (v : Lent) : Type 0 where
   pub answers : outcome_of answer ≡ refused number at
   pub store_kept : v.store ≡ u.store
-  pub work-kept : v.work ≡ work_after at_none (work_used b) number u.work
-  pub list-kept : v.list ≡ u.list
+  pub work_kept : v.work ≡ work_after at_none (work_used b) number u.work
+  pub list_kept : v.list ≡ u.list
 
 -- Accepted: the store marks the axioms after the change and the new set, for H the pairs and links that it held, right or not; the touched concepts stand
 -- in front of the list, and the work space is zero. Bytes past the used parts and entries past the count are kept.
@@ -67,9 +67,9 @@ pub record Accepts (b withdrawn added : List ℕ) (u : Lent) (answer : Changed) 
   pub names : List ℕ
   pub effects : Effects b (in_force b u.store) (edited (in_force b u.store) withdrawn added) (Holding (held b u.store)) names answer
   pub marked : Marked b (edited (in_force b u.store) withdrawn added) (NewSet b (in_force b u.store) (edited (in_force b u.store) withdrawn added) (Holding (held b u.store))) v.store
-  pub store-rest : drop (used b) v.store ≡ drop (used b) u.store
-  pub work-zero : v.work ≡ zeroed (work_used b) u.work
-  pub list-is : v.list ≡ with_front names u.list
+  pub store_rest : drop (used b) v.store ≡ drop (used b) u.store
+  pub work_zero : v.work ≡ zeroed (work_used b) u.work
+  pub list_is : v.list ≡ with_front names u.list
 
 -- A change that withdraws the axioms of `withdrawn` and adds those of `added`.
 pub record Edits (b withdrawn added : List ℕ) (u : Lent) (answer : Changed) (v : Lent) : Type 0 where

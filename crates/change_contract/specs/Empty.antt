@@ -27,8 +27,8 @@ buffer_checks b lent clear few rest =
 pub record Unchanged (b : List ℕ) (u : Lent) (answer : Changed) (v : Lent) : Type 0 where
   pub answers : answer ≡ Done 0 0 0 0
   pub held_same : (e : Expression) → held b v.store e ≡ held b u.store e
-  pub axioms-same : (c d : ℕ) → in_force b v.store c d ≡ in_force b u.store c d
-  pub store-rest : drop (used b) v.store ≡ drop (used b) u.store
-  pub work-zero : v.work ≡ zeroed (work_used b) u.work
+  pub axioms_same : (c d : ℕ) → in_force b v.store c d ≡ in_force b u.store c d
+  pub store_rest : drop (used b) v.store ≡ drop (used b) u.store
+  pub work_zero : v.work ≡ zeroed (work_used b) u.work
   pub list_same : v.list ≡ u.list
   pub store_same : ((i : ℕ) → i < used b → get_or u.store i 0 < 256) → v.store ≡ u.store

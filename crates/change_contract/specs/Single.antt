@@ -57,10 +57,10 @@ withdraw_asked b l r u = withdraw_checks b l r (lengths u) (spare_clear b u.stor
 pub record Leaves (b : List ℕ) (G : ℕ → ℕ → Bool) (S : Expression → Type 0) (names : List ℕ) (u : Lent) (answer : Changed) (v : Lent) : Type 0 where
   pub answers : outcome_of answer ≡ accepted
   pub marked : Marked b G S v.store
-  pub store-rest : drop (used b) v.store ≡ drop (used b) u.store
-  pub work-zero : v.work ≡ zeroed (work_used b) u.work
-  pub list-is : v.list ≡ with_front names u.list
-  pub touched-counted : touched_of answer ≡ length names
+  pub store_rest : drop (used b) v.store ≡ drop (used b) u.store
+  pub work_zero : v.work ≡ zeroed (work_used b) u.work
+  pub list_is : v.list ≡ with_front names u.list
+  pub touched_counted : touched_of answer ≡ length names
 
 -- ---- add
 
@@ -68,9 +68,9 @@ pub record Leaves (b : List ℕ) (G : ℕ → ℕ → Bool) (S : Expression → 
 -- the names are "the partitions that gained".
 pub record AddEffects (b : List ℕ) (l r : ℕ) (F : ℕ → ℕ → Bool) (H S : Expression → Type 0) (names : List ℕ) (answer : Changed) : Type 1 where
   pub as_worded : worded.Add (EL b) (Permits b F) (Permits b (added F l r)) H S
-  pub none-removed : removed_of answer ≡ 0
-  pub none-returned : returned_of answer ≡ 0
-  pub gained-counted : Size b (GainedSet b F (added F l r) H) (gained_of answer)
+  pub none_removed : removed_of answer ≡ 0
+  pub none_returned : returned_of answer ≡ 0
+  pub gained_counted : Size b (GainedSet b F (added F l r) H) (gained_of answer)
   pub listed : Members (concepts b) (GainingPartition b F (added F l r) H) names
 
 pub record AcceptsAdd (b : List ℕ) (l r : ℕ) (u : Lent) (answer : Changed) (v : Lent) : Type 1 where
@@ -89,13 +89,13 @@ pub record AsAdd (b : List ℕ) (l r : ℕ) (u : Lent) (answer : Changed) (v : L
 -- The axiom (l, r) withdrawn from F, of any held set H: what is over-deleted is document 01's, and so is S, the new set.
 pub record WithdrawEffects (b : List ℕ) (l r : ℕ) (F : ℕ → ℕ → Bool) (H S : Expression → Type 0) (answer : Changed) : Type 1 where
   pub as_worded : worded.Withdraw (EL b) (Permits b F) (Permits b (withdrawn F l r)) H (OverDeleted b F (withdrawn F l r) H) S
-  pub removed-counted : Size b (OverDeleted b F (withdrawn F l r) H) (removed_of answer)
-  pub returned-counted : Size b (ReturnedSet b F (withdrawn F l r) H) (returned_of answer)
-  pub gained-counted : Size b (GainedSet b F (withdrawn F l r) H) (gained_of answer)
+  pub removed_counted : Size b (OverDeleted b F (withdrawn F l r) H) (removed_of answer)
+  pub returned_counted : Size b (ReturnedSet b F (withdrawn F l r) H) (returned_of answer)
+  pub gained_counted : Size b (GainedSet b F (withdrawn F l r) H) (gained_of answer)
 
 -- From a store that is classified afresh from F nothing is gained, and the names are "the broken ones". (A wrong store's list has what gained as well.)
 pub record FreshWithdrawal (b : List ℕ) (l r : ℕ) (F : ℕ → ℕ → Bool) (names : List ℕ) (answer : Changed) : Type 0 where
-  pub none-gained : gained_of answer ≡ 0
+  pub none_gained : gained_of answer ≡ 0
   pub listed : Members (concepts b) (BrokenPartition b F (withdrawn F l r) (Closure b F)) names
 
 pub record AcceptsWithdraw (b : List ℕ) (l r : ℕ) (u : Lent) (answer : Changed) (v : Lent) : Type 1 where

@@ -11,31 +11,31 @@ use Rattle.rules.specs.Rules.{Closure}
 use Rattle.layout.specs.Parts.{used, work_used}
 use Rattle.store.specs.Work.{zeroed}
 use Rattle.store.proofs.Stored.{marked_append}
-use Rattle.store.proofs.Work.{work-stays}
+use Rattle.store.proofs.Work.{work_stays}
 use Rattle.classification.specs.declared.Classified.{Classified}
 use Rattle.classification.specs.declared.Classified.TheVariants.{Refused}
 use Rattle.classification.specs.Classified.{classify_checks, Classifying, Classifies}
 
-pub ends-refused : (b store work : List ℕ) (number at : ℕ) → classify_checks b (length store) (length work) ≡ refused number at → Classifies b store work (Refused number at) store work
-ends-refused b store work number at e =
+pub ends_refused : (b store work : List ℕ) (number at : ℕ) → classify_checks b (length store) (length work) ≡ refused number at → Classifies b store work (Refused number at) store work
+ends_refused b store work number at e =
     record {
-      refuses = λ n a q. record { answers = sym e ∙ q; store_kept = refl; work-kept = sym (work-stays (work_used b) n work) };
+      refuses = λ n a q. record { answers = sym e ∙ q; store_kept = refl; work_kept = sym (work_stays (work_used b) n work) };
       accepts = λ q. absurd (never_both (classify_checks b (length store) (length work)) q e);
     }
 
-pub ends-accepted : (b store work : List ℕ) (answer : Classified) (xs ys : List ℕ) (k j : ℕ) → classify_checks b (length store) (length work) ≡ accepted
+pub ends_accepted : (b store work : List ℕ) (answer : Classified) (xs ys : List ℕ) (k j : ℕ) → classify_checks b (length store) (length work) ≡ accepted
     → k ≡ used b → j ≡ work_used b → length xs ≡ used b → Classifying b answer xs ys → Classifies b store work answer (xs ++ drop k store) (ys ++ drop j work)
 unfolding zeroed
-ends-accepted b store work answer xs ys k j e ek ej long c =
+ends_accepted b store work answer xs ys k j e ek ej long c =
     record {
       refuses = λ n a q. absurd (never_both (classify_checks b (length store) (length work)) e q);
       accepts = λ q.
           record {
             answers = c.answers;
-            pairs-counted = c.pairs-counted;
-            links-counted = c.links-counted;
+            pairs_counted = c.pairs_counted;
+            links_counted = c.links_counted;
             fresh = marked_append b (catalogue_axioms b) (Closure b (catalogue_axioms b)) xs (drop k store) c.fresh;
-            store-rest = drop_at xs (drop k store) (used b) long ∙ ap (λ (n : ℕ). drop n store) ek;
-            work-zero = ap (λ (l : List ℕ). l ++ drop j work) c.work-zero ∙ ap (λ (n : ℕ). replicate (work_used b) 0 ++ drop n work) ej;
+            store_rest = drop_at xs (drop k store) (used b) long ∙ ap (λ (n : ℕ). drop n store) ek;
+            work_zero = ap (λ (l : List ℕ). l ++ drop j work) c.work_zero ∙ ap (λ (n : ℕ). replicate (work_used b) 0 ++ drop n work) ej;
           };
     }

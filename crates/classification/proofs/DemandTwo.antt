@@ -16,7 +16,7 @@ use Rattle.rules.proofs.DemandTwo.{demand_two_closure}
 use Rattle.layout.specs.Parts.{held}
 use Rattle.classification.specs.declared.Classified.{Classified}
 use Rattle.classification.specs.Classified.{classify_checks, Classifies}
-use Rattle.classification.proofs.Checks.{accepted-fits}
+use Rattle.classification.proofs.Checks.{accepted_fits}
 
 module _ (b store work : List ℕ) (a : Classified) (s w : List ℕ) (c : Classifies b store work a s w) (ok : classify_checks b (length store) (length work) ≡ accepted) where
   -- The store holds just the expressions that the rules derive.
@@ -27,5 +27,5 @@ module _ (b store work : List ℕ) (a : Classified) (s w : List ℕ) (c : Classi
   pub demand_two : (x y : ℕ) → Occurs b (catalogue_axioms b) x → Occurs b (catalogue_axioms b) y
       → ((held b s (pair x y) ≡ true) ↔ Entails b (catalogue_axioms b) x y) × ((held b s (pair x y) ≡ false) ↔ Refuted b (catalogue_axioms b) x y)
   demand_two =
-      let wf = (accepted-fits b (length store) (length work) ok).well_formed in
+      let wf = (accepted_fits b (length store) (length work) ok).well_formed in
       demand_two_closure b (catalogue_axioms b) (held b s) wf (catalogue_in_range b wf) holds_derived

@@ -19,12 +19,12 @@ use Rattle.layout.specs.declared.Shape.{Shape}
 use Rattle.layout.specs.Layout.{shape_of, table, marks, table_length, block_length, Shaped}
 use Rattle.layout.specs.Parts.{width, used, work_used}
 use Rattle.store.specs.Fresh.{Fresh}
-use Rattle.layout.proofs.StoreSizes.{used_split, work_is_block, table-long, block_long, used-limit, table-limit}
+use Rattle.layout.proofs.StoreSizes.{used_split, work_is_block, table_long, block_long, used_limit, table_limit}
 use Rattle.classification.specs.Classified.{UsedParts}
 use Rattle.classification.specs.Closing.{Closes}
 use Rattle.rules.proofs.Bounds.{closure_bounded}
-use Rattle.store.proofs.Stored.{put_behind, parts-marked}
-use Rattle.layout.proofs.Counted.{pairs-size, links-size}
+use Rattle.store.proofs.Stored.{put_behind, parts_marked}
+use Rattle.layout.proofs.Counted.{pairs_size, links_size}
 
 -- How the store came about: `rows` put at the front of it, and then `set` in its place behind them.
 pub record FilledFrom (b rows set work store copied filled : List ℕ) (s : Shape) : Type 0 where
@@ -43,26 +43,26 @@ pub record FilledTo (b work store filled : List ℕ) (s : Shape) : Type 0 where
   pub fresh : Fresh b (catalogue_axioms b) filled
   pub pairs : Size b (Pairs (Closure b (catalogue_axioms b))) (count_bits (mid_of (table_length s) ((table_length s + table_length s) - table_length s) filled))
   pub links : Size b (Links (Closure b (catalogue_axioms b))) (count_bits (mid_of (table_length s + table_length s) (length store - (table_length s + table_length s)) filled))
-  pub work-zero : work ≡ replicate (work_used b) 0
+  pub work_zero : work ≡ replicate (work_used b) 0
 
 -- The sizes of a store's parts, by its shape.
 pub record PartSizes (b store : List ℕ) (s : Shape) : Type 0 where
   pub whole : length store ≡ table_length s + block_length s
   pub half : table_length s ≤ block_length s
   pub limit : length store ≤ 1048576
-  pub table-limit : table_length s ≤ 32768
+  pub table_limit : table_length s ≤ 32768
 
 sizes_at : (b store : List ℕ) → WellFormed b → length store ≡ used b → PartSizes b store (shape_of b)
 unfolding table_length
 sizes_at b store wf long =
     let k = block_long b in
-    let a = table-long b in
+    let a = table_long b in
     let more = add-mul (concepts b) (concepts b * roles b) (width b) in
     record {
       whole = long ∙ used_split b;
       half = omega arith;
-      limit = omega (arith, used-limit wf);
-      table-limit = omega (arith, table-limit wf);
+      limit = omega (arith, used_limit wf);
+      table_limit = omega (arith, table_limit wf);
     }
 
 pub part_sizes : (b store : List ℕ) (s : Shape) → s ≡ shape_of b → WellFormed b → length store ≡ used b → PartSizes b store s
@@ -94,8 +94,8 @@ module _ (b rows set work store copied filled : List ℕ) (h : FilledFrom b rows
   unfolding F
   set-held = subst (λ (G : Axioms). Decides (marks (shape_of b) set) (Closure b G)) (fun_ext (λ c. fun_ext (λ d. h.axioms c d))) h.closes.held
 
-  filled-long : length filled ≡ length store
-  filled-long =
+  filled_long : length filled ≡ length store
+  filled_long =
       let z = sizes in
       ap length parts
       ∙ length-append rows set
@@ -112,23 +112,23 @@ module _ (b rows set work store copied filled : List ℕ) (h : FilledFrom b rows
       record {
         fresh =
             subst (Fresh b F) (sym parts)
-            (parts-marked b rows set h.rows_long h.set_long F (Closure b F) range bounded h.axioms set-held (subst Bytes parts h.bytes));
+            (parts_marked b rows set h.rows_long h.set_long F (Closure b F) range bounded h.axioms set-held (subst Bytes parts h.bytes));
         pairs =
             subst (λ (l : List ℕ). Size b (Pairs (Closure b F)) (count_bits l))
             (sym (ap₂ take (let y : (t + t) - t ≡ t = omega arith in y) back))
-            (pairs-size b set (Closure b F) h.set_long set-held bounded);
+            (pairs_size b set (Closure b F) h.set_long set-held bounded);
         links =
             subst (λ (l : List ℕ). Size b (Links (Closure b F)) (count_bits l))
             (sym
-            (take_all (length store - (t + t)) (drop (t + t) filled) (omega (arith, length-drop (t + t) filled, filled-long))
+            (take_all (length store - (t + t)) (drop (t + t) filled) (omega (arith, length-drop (t + t) filled, filled_long))
             ∙ sym (drop-drop t t filled)
             ∙ ap (drop t) back))
-            (links-size b set (Closure b F) h.set_long set-held bounded);
-        work-zero = h.closes.work-zero ∙ ap (λ (k : ℕ). replicate k 0) (sym (work_is_block b));
+            (links_size b set (Closure b F) h.set_long set-held bounded);
+        work_zero = h.closes.work_zero ∙ ap (λ (k : ℕ). replicate k 0) (sym (work_is_block b));
       }
 
-pub store-filled : (b rows set work store copied filled : List ℕ) (s : Shape) → s ≡ shape_of b → FilledFrom b rows set work store copied filled s → FilledTo b work store filled s
-store-filled b rows set work store copied filled s e =
+pub store_filled : (b rows set work store copied filled : List ℕ) (s : Shape) → s ≡ shape_of b → FilledFrom b rows set work store copied filled s → FilledTo b work store filled s
+store_filled b rows set work store copied filled s e =
     subst (λ (x : Shape). FilledFrom b rows set work store copied filled x → FilledTo b work store filled x) (sym e) (at_shape b rows set work store copied filled)
 
 -- ---- what the parts of a store that is filled ask

@@ -8,7 +8,7 @@ use Rattle.layout.specs.Parts.{Sized}
 use Rattle.classification.specs.declared.Classified.{Classified}
 use Rattle.classification.specs.declared.Classified.TheVariants.{Done}
 use Rattle.classification.specs.Classified.{classify_checks, outcome_of, Classifies}
-use Rattle.classification.proofs.Checks.{accepted-fits}
+use Rattle.classification.proofs.Checks.{accepted_fits}
 
 module _ (b store work : List ℕ) (answer : Classified) (store' work' : List ℕ) where
   -- The answer's outcome is that of the questions.
@@ -23,4 +23,4 @@ module _ (b store work : List ℕ) (answer : Classified) (store' work' : List �
   pub done_sized : (pairs links : ℕ) → Classifies b store work answer store' work' → answer ≡ Done pairs links → Sized b store'
   done_sized pairs links c e =
       let ok : classify_checks b (length store) (length work) ≡ accepted = sym (answer_outcome c) ∙ ap outcome_of e in
-      record { well_formed = (accepted-fits b (length store) (length work) ok).well_formed; long = (c.accepts ok).fresh.long }
+      record { well_formed = (accepted_fits b (length store) (length work) ok).well_formed; long = (c.accepts ok).fresh.long }

@@ -14,36 +14,36 @@ use Rattle.store.proofs.Fresh.{fresh_unique}
 use Rattle.classification.specs.declared.Classified.{Classified}
 use Rattle.classification.specs.declared.Classified.TheVariants.{Done, Refused}
 use Rattle.classification.specs.Classified.{classify_checks, outcome_of, pairs_of, links_of, Classifies}
-use Rattle.classification.proofs.Checks.{accepted-fits}
+use Rattle.classification.proofs.Checks.{accepted_fits}
 
 -- An answer is decided by its outcome and its two counts.
-pub refused-answer : (a : Classified) {number at : ℕ} → outcome_of a ≡ refused number at → a ≡ Refused number at
-refused-answer (Done pairs links) e = let z : ◌≡◌ {A = ℕ} 0 1 = cc in absurd (omega arith)
-refused-answer (Refused number at) e = cc
+pub refused_answer : (a : Classified) {number at : ℕ} → outcome_of a ≡ refused number at → a ≡ Refused number at
+refused_answer (Done pairs links) e = let z : ◌≡◌ {A = ℕ} 0 1 = cc in absurd (omega arith)
+refused_answer (Refused number at) e = cc
 
-pub accepted-answer : (a : Classified) {pairs links : ℕ} → outcome_of a ≡ accepted → pairs_of a ≡ pairs → links_of a ≡ links → a ≡ Done pairs links
-accepted-answer (Done pairs links) e p q = cc
-accepted-answer (Refused number at) e p q = let z : ◌≡◌ {A = ℕ} 0 1 = cc in absurd (omega arith)
+pub accepted_answer : (a : Classified) {pairs links : ℕ} → outcome_of a ≡ accepted → pairs_of a ≡ pairs → links_of a ≡ links → a ≡ Done pairs links
+accepted_answer (Done pairs links) e p q = cc
+accepted_answer (Refused number at) e p q = let z : ◌≡◌ {A = ℕ} 0 1 = cc in absurd (omega arith)
 
 module _ (b store work : List ℕ) (a a' : Classified) (s s' w w' : List ℕ) (p : Classifies b store work a s w) (q : Classifies b store work a' s' w') where
   unique_by : (o : Outcome) → classify_checks b (length store) (length work) ≡ o → (a ≡ a') × (s ≡ s') × (w ≡ w')
   unique_by (refused number at) e =
       let r = p.refuses number at e in
       let t = q.refuses number at e in (
-        refused-answer a r.answers ∙ sym (refused-answer a' t.answers),
+        refused_answer a r.answers ∙ sym (refused_answer a' t.answers),
         r.store_kept ∙ sym t.store_kept,
-        r.work-kept ∙ sym t.work-kept,
+        r.work_kept ∙ sym t.work_kept,
       )
   unique_by accepted e =
       let r = p.accepts e in
       let t = q.accepts e in
       let F = catalogue_axioms b in
-      let pairs = size_unique b (Pairs (Closure b F)) (pairs_of a) (pairs_of a') r.pairs-counted t.pairs-counted in
-      let links = size_unique b (Links (Closure b F)) (links_of a) (links_of a') r.links-counted t.links-counted in
-      let front = fresh_unique b F F s s' (accepted-fits b (length store) (length work) e).well_formed (λ c d. refl) r.fresh t.fresh in (
-        accepted-answer a r.answers pairs links ∙ sym (accepted-answer a' t.answers refl refl),
-        sym (take-append-drop (used b) s) ∙ ap₂ ◌++◌ front (r.store-rest ∙ sym t.store-rest) ∙ take-append-drop (used b) s',
-        r.work-zero ∙ sym t.work-zero,
+      let pairs = size_unique b (Pairs (Closure b F)) (pairs_of a) (pairs_of a') r.pairs_counted t.pairs_counted in
+      let links = size_unique b (Links (Closure b F)) (links_of a) (links_of a') r.links_counted t.links_counted in
+      let front = fresh_unique b F F s s' (accepted_fits b (length store) (length work) e).well_formed (λ c d. refl) r.fresh t.fresh in (
+        accepted_answer a r.answers pairs links ∙ sym (accepted_answer a' t.answers refl refl),
+        sym (take-append-drop (used b) s) ∙ ap₂ ◌++◌ front (r.store_rest ∙ sym t.store_rest) ∙ take-append-drop (used b) s',
+        r.work_zero ∙ sym t.work_zero,
       )
 
   pub classifies_unique : (a ≡ a') × (s ≡ s') × (w ≡ w')

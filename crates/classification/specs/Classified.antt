@@ -35,30 +35,30 @@ links_of (Refused number at) = 0
 pub record Refuses (b : List ℕ) (number at : ℕ) (store work : List ℕ) (answer : Classified) (store' work' : List ℕ) : Type 0 where
   pub answers : outcome_of answer ≡ refused number at
   pub store_kept : store' ≡ store
-  pub work-kept : work' ≡ work_after at_none (work_used b) number work
+  pub work_kept : work' ≡ work_after at_none (work_used b) number work
 
 -- Accepted: the store is classified afresh from the catalogue's axioms, whatever it held, and the work space is zero; the bytes past their used parts
 -- are kept. The answer holds the counts of pairs and of links.
 pub record Accepts (b store work : List ℕ) (answer : Classified) (store' work' : List ℕ) : Type 0 where
   pub answers : outcome_of answer ≡ accepted
-  pub pairs-counted : Size b (Pairs (Closure b (catalogue_axioms b))) (pairs_of answer)
-  pub links-counted : Size b (Links (Closure b (catalogue_axioms b))) (links_of answer)
+  pub pairs_counted : Size b (Pairs (Closure b (catalogue_axioms b))) (pairs_of answer)
+  pub links_counted : Size b (Links (Closure b (catalogue_axioms b))) (links_of answer)
   pub fresh : Fresh b (catalogue_axioms b) store'
-  pub store-rest : drop (used b) store' ≡ drop (used b) store
-  pub work-zero : work' ≡ zeroed (work_used b) work
+  pub store_rest : drop (used b) store' ≡ drop (used b) store
+  pub work_zero : work' ≡ zeroed (work_used b) work
 
 -- The same on used parts alone: what a store and a work space of just these lengths hold.
 pub record UsedParts (b store work : List ℕ) : Type 0 where
   pub well_formed : WellFormed b
   pub store_long : length store ≡ used b
-  pub work-long : length work ≡ work_used b
+  pub work_long : length work ≡ work_used b
 
 pub record Classifying (b : List ℕ) (answer : Classified) (store work : List ℕ) : Type 0 where
   pub answers : outcome_of answer ≡ accepted
-  pub pairs-counted : Size b (Pairs (Closure b (catalogue_axioms b))) (pairs_of answer)
-  pub links-counted : Size b (Links (Closure b (catalogue_axioms b))) (links_of answer)
+  pub pairs_counted : Size b (Pairs (Closure b (catalogue_axioms b))) (pairs_of answer)
+  pub links_counted : Size b (Links (Closure b (catalogue_axioms b))) (links_of answer)
   pub fresh : Fresh b (catalogue_axioms b) store
-  pub work-zero : work ≡ replicate (work_used b) 0
+  pub work_zero : work ≡ replicate (work_used b) 0
 
 -- Classify.
 pub record Classifies (b store work : List ℕ) (answer : Classified) (store' work' : List ℕ) : Type 0 where

@@ -22,66 +22,66 @@ use Rattle.writing.specs.Write.{Writes}
 use Rattle.writing.specs.declared.Wrote.TheVariants.{Length}
 use Rattle.classification.specs.declared.Classified.TheVariants.{Done}
 use Rattle.classification.specs.Classified.{classify_checks, Classifies}
-use Rattle.classification.proofs.Checks.{all-accepted}
+use Rattle.classification.proofs.Checks.{all_accepted}
 use Rattle.examples_w1_w6.specs.Stores.{w1_store}
-use Rattle.examples_w1_w6.proofs.Reading.{w1-writes}
+use Rattle.examples_w1_w6.proofs.Reading.{w1_writes}
 use Rattle.worked_examples.proofs.Worked.{worked}
 use Rattle.demands.specs.Afresh.{ClassifiesAlike}
 use Rattle.demands.specs.Sequences.{Turn, Sequence, in_force_after}
 use Rattle.demands.specs.PublicCalls.{PublicCall, buffers, Returns}
 use Rattle.demands.proofs.AfterCalls.{classify_turn, classify_alone, classify_alone_axioms}
 use Rattle.demands.proofs.DemandTwo.{demand_two}
-use Rattle.demands.proofs.ClassifyWritten.{calls-write-classify}
+use Rattle.demands.proofs.ClassifyWritten.{calls_write_classify}
 
 -- 35 bytes of store and 28 of work space are long enough.
 pub w1-asked : classify_checks w1 35 28 ≡ accepted
 unfolding w1 word concepts roles width used work_used store_fits work_fits
-w1-asked = all-accepted w1 35 28 worked.W1-to-W6.W1-accepted refl refl
+w1-asked = all_accepted w1 35 28 worked.W1_to_W6.W1_accepted refl refl
 
 -- W1: 14 pairs and 7 links, and the table's store.
-pub w1-classifies : Classifies w1 (replicate 35 0) (replicate 28 0) (Done 14 7) w1_store (replicate 28 0)
+pub w1_classifies : Classifies w1 (replicate 35 0) (replicate 28 0) (Done 14 7) w1_store (replicate 28 0)
 unfolding w1 w1_store word concepts roles width used work_used zeroed
-w1-classifies =
+w1_classifies =
     record {
       refuses = λ number at e. absurd (never_both _ w1-asked e);
       accepts = λ _.
           record {
             answers = refl;
-            pairs-counted = worked.W1-to-W6.W1.pairs-right;
-            links-counted = worked.W1-to-W6.W1.links-right;
-            fresh = worked.W1-to-W6.W1-fresh;
-            store-rest = refl;
-            work-zero = refl;
+            pairs_counted = worked.W1_to_W6.W1.pairs_right;
+            links_counted = worked.W1_to_W6.W1.links_right;
+            fresh = worked.W1_to_W6.W1_fresh;
+            store_rest = refl;
+            work_zero = refl;
           };
     }
 
 -- It is a public call that returned, lent no list.
-pub w1-returns : Returns w1 (buffers (replicate 35 0) (replicate 28 0) [] []) PublicCall.classify accepted (buffers w1_store (replicate 28 0) [] [])
-w1-returns = Returns.classifies w1-classifies
+pub w1_returns : Returns w1 (buffers (replicate 35 0) (replicate 28 0) [] []) PublicCall.classify accepted (buffers w1_store (replicate 28 0) [] [])
+w1_returns = Returns.classifies w1_classifies
 
 -- This classify alone, as a list of calls.
 abbrev pub w1_turn : Turn
 w1_turn = classify_turn w1 (replicate 35 0) (replicate 28 0) (Done 14 7) w1_store (replicate 28 0)
 
 w1_alone : Sequence w1 (replicate 35 0) w1_turn [] w1_store
-w1_alone = classify_alone w1 (replicate 35 0) (replicate 28 0) (Done 14 7) w1_store (replicate 28 0) w1-classifies w1-asked
+w1_alone = classify_alone w1 (replicate 35 0) (replicate 28 0) (Done 14 7) w1_store (replicate 28 0) w1_classifies w1-asked
 
 w1_alone_axioms : catalogue_axioms w1 ≡ in_force_after w1 (w1_turn ∷ [])
-w1_alone_axioms = classify_alone_axioms w1 (replicate 35 0) (replicate 28 0) (Done 14 7) w1_store (replicate 28 0) w1-classifies w1-asked
+w1_alone_axioms = classify_alone_axioms w1 (replicate 35 0) (replicate 28 0) (Done 14 7) w1_store (replicate 28 0) w1_classifies w1-asked
 
 -- W2: (0, 3) yes, so that 0 lies within 3 in every finite interpretation; (3, 0) no, and one shows otherwise.
 pub w2_means : Entails w1 (catalogue_axioms w1) 0 3 × Refuted w1 (catalogue_axioms w1) 3 0
 unfolding w1_store
 w2_means =
     let after : (c d : ℕ) (r : Looked) → r ≡ looked_up w1 c d w1_store → LookupMeans w1 (catalogue_axioms w1) c d r =
-    (demand_two.edited w1 (replicate 35 0) w1_turn [] w1_store w1_alone (catalogue_axioms w1) w1_alone_axioms 35 worked.W1-to-W6.W1-fresh.long).lookups
+    (demand_two.edited w1 (replicate 35 0) w1_turn [] w1_store w1_alone (catalogue_axioms w1) w1_alone_axioms 35 worked.W1_to_W6.W1_fresh.long).lookups
     in
-    let (found, missed) = worked.W1-to-W6.W2_lookups w1_store worked.W1-to-W6.W1-fresh in
+    let (found, missed) = worked.W1_to_W6.W2_lookups w1_store worked.W1_to_W6.W1_fresh in
     (((after 0 3 Yes (sym found)).yes_means.0 refl).2, ((after 3 0 No (sym missed)).no_means.0 refl).2)
 
 -- Into 80 bytes W1 is written back, and classify of it leaves the same used part.
-pub w1-alike : ClassifiesAlike w1 w1_store w1
+pub w1_alike : ClassifiesAlike w1 w1_store w1
 unfolding w1 w1_store
-w1-alike =
-    let back : Writes w1 w1_store (replicate 80 0) (Length 80) w1 = w1-writes w1_store worked.W1-to-W6.W1-fresh (replicate 80 0) (lit≤ tt) in
-    (calls-write-classify w1 (replicate 35 0) w1_turn [] w1_store w1_alone (catalogue_axioms w1) w1_alone_axioms 35 worked.W1-to-W6.W1-fresh.long (replicate 80 0) 80 w1 back).1
+w1_alike =
+    let back : Writes w1 w1_store (replicate 80 0) (Length 80) w1 = w1_writes w1_store worked.W1_to_W6.W1_fresh (replicate 80 0) (lit≤ tt) in
+    (calls_write_classify w1 (replicate 35 0) w1_turn [] w1_store w1_alone (catalogue_axioms w1) w1_alone_axioms 35 worked.W1_to_W6.W1_fresh.long (replicate 80 0) 80 w1 back).1

@@ -17,11 +17,11 @@ use Rattle.rules.proofs.Axioms.{catalogue_in_range}
 use Rattle.layout.specs.Parts.{used}
 use Rattle.store.specs.Fresh.{Fresh}
 use Rattle.store.specs.Written.{axiom_count}
-use Rattle.store.proofs.AxiomCounts.{catalogue-count}
+use Rattle.store.proofs.AxiomCounts.{catalogue_count}
 use Rattle.store.proofs.Stored.{marked-used, marked_append}
 use Rattle.classification.specs.Classified.{classify_checks, Classifies}
 use Rattle.classification.specs.declared.Classified.{Classified}
-use Rattle.classification.proofs.Checks.{accepted-fits}
+use Rattle.classification.proofs.Checks.{accepted_fits}
 
 -- Catalogue b is accepted, and the store is classified afresh from F, at most 4,096 axioms: what lookup, listing, row, write and change ask of it.
 pub record FreshStore (b : List ℕ) (F : ℕ → ℕ → Bool) (store : List ℕ) : Type 0 where
@@ -36,23 +36,23 @@ unfolding classify_checks
 checked-first b store_length work_length ok = (followed-both (checked b) _ (checks_followed b _ ∙ ok)).0
 
 -- What an accepted classify leaves.
-pub classify-leaves : (b store work : List ℕ) (answer : Classified) (store' work' : List ℕ) → Classifies b store work answer store' work'
+pub classify_leaves : (b store work : List ℕ) (answer : Classified) (store' work' : List ℕ) → Classifies b store work answer store' work'
     → classify_checks b (length store) (length work) ≡ accepted → FreshStore b (catalogue_axioms b) store'
-classify-leaves b store work answer store' work' call ok =
-    let wf : WellFormed b = (accepted-fits b _ _ ok).well_formed in
+classify_leaves b store work answer store' work' call ok =
+    let wf : WellFormed b = (accepted_fits b _ _ ok).well_formed in
     record {
       catalogue = checked-first b _ _ ok;
       well_formed = wf;
       range = catalogue_in_range b wf;
-      few = omega (arith, catalogue-count b wf, wf.axioms-limit);
+      few = omega (arith, catalogue_count b wf, wf.axioms_limit);
       fresh = (call.accepts ok).fresh;
     }
 
 -- ---- a part of a store, and more than it
 
 -- The rest of the store changes nothing.
-pub fresh-append : (b : List ℕ) (F : Axioms) (xs ys : List ℕ) → FreshStore b F xs → FreshStore b F (xs ++ ys)
-fresh-append b F xs ys u =
+pub fresh_append : (b : List ℕ) (F : Axioms) (xs ys : List ℕ) → FreshStore b F xs → FreshStore b F (xs ++ ys)
+fresh_append b F xs ys u =
     record {
       catalogue = u.catalogue;
       well_formed = u.well_formed;
@@ -62,8 +62,8 @@ fresh-append b F xs ys u =
     }
 
 -- A front that is long enough is as fresh as the store.
-pub fresh-front : (b : List ℕ) (F : Axioms) (store : List ℕ) (k : ℕ) → used b ≤ length (take k store) → FreshStore b F store → FreshStore b F (take k store)
-fresh-front b F store k long u =
+pub fresh_front : (b : List ℕ) (F : Axioms) (store : List ℕ) (k : ℕ) → used b ≤ length (take k store) → FreshStore b F store → FreshStore b F (take k store)
+fresh_front b F store k long u =
     record {
       catalogue = u.catalogue;
       well_formed = u.well_formed;

@@ -12,8 +12,8 @@ use Rattle.classification.specs.declared.Classified.{Classified}
 -- Catalogue w in place of b: it asks for buffers as long as b does and is accepted with them, and classify of it leaves a store that is fresh
 -- for F under b.
 pub record ClassifiesAfresh (b : List ℕ) (F : ℕ → ℕ → Bool) (w : List ℕ) : Type 0 where
-  pub same-used : used w ≡ used b
-  pub same-work : work_used w ≡ work_used b
+  pub same_used : used w ≡ used b
+  pub same_work : work_used w ≡ work_used b
   pub accepts : (store_length work_length : ℕ) → used b ≤ store_length → work_used b ≤ work_length → classify_checks w store_length work_length ≡ accepted
   pub leaves : (store work : List ℕ) (answer : Classified) (store' work' : List ℕ)
       → used b ≤ length store → work_used b ≤ length work → Classifies w store work answer store' work' → Fresh b F store'

@@ -126,4 +126,4 @@ EmptyTold b F store = (d : ℕ) (list after : List ℕ) → Lists b d store list
 pub record DemandOne : Type 0 where
   pub calls : (b : List ℕ) (u : Buffers) (c : PublicCall) (o : Outcome) (v : Buffers) → Returns b u c o v → RefusedFirst b u c o v
   -- "From a store as in demand 3, an empty list comes only when no kind that occurs meets the wish."
-  pub empty-list : AfterCalls EmptyTold
+  pub empty_list : AfterCalls EmptyTold

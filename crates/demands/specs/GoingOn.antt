@@ -10,7 +10,7 @@ use Rattle.demands.specs.Sequences.{change, Call, Turn, Ran, AcceptedWith, Seque
 -- Calls that go on from a store under catalogue b.
 pub record GoesOn (b store : List ℕ) (ts : List Turn) (last : List ℕ) : Type 0 where
   pub ran : Ran store ts last
-  pub one-catalogue : AcceptedWith b ts
+  pub one_catalogue : AcceptedWith b ts
 
 -- The catalogue that a user has, the axioms in force, and the store: after a list as in demand 3; after calls that go on from there; and with the catalogue
 -- that write gives of them (demand 2, `writes`) in place of the one so far.
@@ -32,7 +32,7 @@ pub record AsOneList (b : List ℕ) (F : ℕ → ℕ → Bool) (store : List ℕ
   pub afresh : ClassifiedAfresh b F store
   pub correct : (ts : List Turn) (last : List ℕ) → GoesOn b store ts last → AllCorrect b F store ts
   -- Under the catalogue that is written, changes put the same axioms in force, and a store classified afresh has the same bytes.
-  pub same-axioms : (cs : List Call) → ((c : Call) → Memᴰ c cs → IsChange c)
+  pub same_axioms : (cs : List Call) → ((c : Call) → Memᴰ c cs → IsChange c)
       → after_calls (written b F) F (map (under (written b F)) cs) ≡ after_calls b F (map (under b) cs)
   pub same_store : (G : ℕ → ℕ → Bool) (other : List ℕ) → InRange b G → axiom_count b G ≤ 4096 → Fresh (written b F) G other ↔ Fresh b G other
 

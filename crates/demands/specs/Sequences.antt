@@ -50,9 +50,9 @@ pub record Turn : Type 0 where
   pub work : List ℕ
   pub list : List ℕ
   pub answer : Answer
-  pub work-after : List ℕ
-  pub list-after : List ℕ
-  pub store-after : List ℕ
+  pub work_after : List ℕ
+  pub list_after : List ℕ
+  pub store_after : List ℕ
 
 -- ---- the list
 
@@ -73,14 +73,14 @@ FrontOrShort c = (c.from ≡ 0) ⊎ (c.lent.store < used c.catalogue)
 pub record RunsOn (store : List ℕ) (t : Turn) : Type 0 where
   pub lent_is : lengths (lent_to t store) ≡ t.call.lent
   pub part : FrontOrShort t.call
-  pub part-after : List ℕ
-  pub contract : Meets t.call.catalogue (lent_to t store) (lend part-after t.work-after t.list-after) t.call.request t.answer
-  pub store_is : t.store-after ≡ take t.call.from store ++ (part-after ++ drop t.call.lent.store (drop t.call.from store))
+  pub part_after : List ℕ
+  pub contract : Meets t.call.catalogue (lent_to t store) (lend part_after t.work_after t.list_after) t.call.request t.answer
+  pub store_is : t.store_after ≡ take t.call.from store ++ (part_after ++ drop t.call.lent.store (drop t.call.from store))
 
 -- Turns in a row from one store to another, each with the store as the one before left it.
 pub data Ran : List ℕ → List Turn → List ℕ → Type 0 where
   nothing : {store : List ℕ} → Ran store [] store
-  first : {store last : List ℕ} {t : Turn} {ts : List Turn} → RunsOn store t → Ran t.store-after ts last → Ran store (t ∷ ts) last
+  first : {store last : List ℕ} {t : Turn} {ts : List Turn} → RunsOn store t → Ran t.store_after ts last → Ran store (t ∷ ts) last
 
 -- Every accepted call among these turns got catalogue b.
 abbrev pub AcceptedWith : List ℕ → List Turn → Type 0
@@ -91,8 +91,8 @@ AcceptedWith b ts = (x : Turn) → Memᴰ x ts → outcome_of x.answer ≡ accep
 pub record Sequence (b store : List ℕ) (t : Turn) (ts : List Turn) (last : List ℕ) : Type 0 where
   pub ran : Ran store (t ∷ ts) last
   pub begins : t.call.request ≡ classify
-  pub begins-accepted : outcome_of t.answer ≡ accepted
-  pub one-catalogue : AcceptedWith b (t ∷ ts)
+  pub begins_accepted : outcome_of t.answer ≡ accepted
+  pub one_catalogue : AcceptedWith b (t ∷ ts)
 
 -- ---- the axioms in force by arguments alone
 
@@ -157,23 +157,23 @@ pub record SameRows (b : List ℕ) (c : ℕ) (store store' : List ℕ) : Type 0 
 pub record Changes (b : List ℕ) (F G : ℕ → ℕ → Bool) (store : List ℕ) (t : Turn) : Type 0 where
   pub answer : Changed
   pub names : List ℕ
-  pub answer-is : t.answer ≡ changed answer
+  pub answer_is : t.answer ≡ changed answer
   pub effects : Effects b F G (Closure b F) names answer
-  pub list-is : t.list-after ≡ with_front names t.list
-  pub others : (c : ℕ) → c < concepts b → ¬ (TouchedPartition b F G (Closure b F) c) → SameRows b c store t.store-after
+  pub list_is : t.list_after ≡ with_front names t.list
+  pub others : (c : ℕ) → c < concepts b → ¬ (TouchedPartition b F G (Closure b F) c) → SameRows b c store t.store_after
 
 -- A turn with F in force before it.
 pub record Correct (b : List ℕ) (F : ℕ → ℕ → Bool) (store : List ℕ) (t : Turn) : Type 0 where
   pub agrees : Agrees (expected b F t.call) (outcome_of t.answer)
-  pub keeps : (number at : ℕ) → outcome_of t.answer ≡ refused number at → t.store-after ≡ store
-  pub rest : drop (used b) t.store-after ≡ drop (used b) store
-  pub fresh : Fresh b (after_call b F t.call) t.store-after
+  pub keeps : (number at : ℕ) → outcome_of t.answer ≡ refused number at → t.store_after ≡ store
+  pub rest : drop (used b) t.store_after ≡ drop (used b) store
+  pub fresh : Fresh b (after_call b F t.call) t.store_after
   pub changes : (withdrawn added : List ℕ) → t.call.request ≡ change withdrawn added → outcome_of t.answer ≡ accepted → Changes b F (edited F withdrawn added) store t
 
 -- Each turn in a row.
 pub data AllCorrect (b : List ℕ) : (ℕ → ℕ → Bool) → List ℕ → List Turn → Type 0 where
   nothing : {F : ℕ → ℕ → Bool} {store : List ℕ} → AllCorrect b F store []
-  first : {F : ℕ → ℕ → Bool} {store : List ℕ} {t : Turn} {ts : List Turn} → Correct b F store t → AllCorrect b (after_call b F t.call) t.store-after ts
+  first : {F : ℕ → ℕ → Bool} {store : List ℕ} {t : Turn} {ts : List Turn} → Correct b F store t → AllCorrect b (after_call b F t.call) t.store_after ts
       → AllCorrect b F store (t ∷ ts)
 
 -- Every byte of the used part equals that of a store classified afresh from F, and that of the store that classify leaves when lent the catalogue with F as

@@ -29,6 +29,6 @@ pub record Table : Type 0 where
   pub example3_left : Classified example1 example3_axioms 13 7 (29 ∷ 34 ∷ 4 ∷ 28 ∷ 20 ∷ 32 ∷ 0 ∷ [])
   -- Example 4: ∃R.B⊑∃R.C and A⊑∃R.C, (28) and (30), are deleted and do not come back.
   pub example4_closure : Classified example4 example4_axioms 11 6 (25 ∷ 6 ∷ 6 ∷ 24 ∷ 24 ∷ [])
-  pub example4-change : Changed example4 example4_axioms example4_axioms' 16 8 0 (0 ∷ 1 ∷ 2 ∷ 3 ∷ 4 ∷ []) [] (0 ∷ 1 ∷ 2 ∷ 3 ∷ 4 ∷ [])
-  pub example4-deleted : Rows (OverDeleted example4 example4_axioms example4_axioms' (Closure example4 example4_axioms)) (24 ∷ 6 ∷ 6 ∷ 24 ∷ 24 ∷ [])
+  pub example4_change : Changed example4 example4_axioms example4_axioms' 16 8 0 (0 ∷ 1 ∷ 2 ∷ 3 ∷ 4 ∷ []) [] (0 ∷ 1 ∷ 2 ∷ 3 ∷ 4 ∷ [])
+  pub example4_deleted : Rows (OverDeleted example4 example4_axioms example4_axioms' (Closure example4 example4_axioms)) (24 ∷ 6 ∷ 6 ∷ 24 ∷ 24 ∷ [])
   pub example4-left : Classified example4 example4_axioms' 6 3 (9 ∷ 2 ∷ 4 ∷ 8 ∷ 16 ∷ [])

@@ -25,13 +25,13 @@ value_past f i (suc k) zero d h = absurd (not-suc-le-zero h)
 value_past f i (suc k) (suc j) d h = value_past f (suc i) k j d (le_of_suc-le-suc h)
 
 -- A number is listed exactly where it is in the range and passes.
-pub passing-exact : (test : ℕ → Bool) (i k c : ℕ) → Memᴰ c (passing test i k) ↔ ((i ≤ c) × (c < i + k) × (test c ≡ true))
+pub passing_exact : (test : ℕ → Bool) (i k c : ℕ) → Memᴰ c (passing test i k) ↔ ((i ≤ c) × (c < i + k) × (test c ≡ true))
 unfolding passing
-passing-exact test i zero c = (λ m. absurd (Memᴰ.not-nil m), λ h. absurd (nothing h.0 h.1))
+passing_exact test i zero c = (λ m. absurd (Memᴰ.not-nil m), λ h. absurd (nothing h.0 h.1))
   where
     nothing : i ≤ c → c < i + zero → ⊥
     nothing p q = omega arith
-passing-exact test i (suc k) c = (found (passing-exact test (suc i) k c).0, all (passing-exact test (suc i) k c).1)
+passing_exact test i (suc k) c = (found (passing_exact test (suc i) k c).0, all (passing_exact test (suc i) k c).1)
   where
     found : (Memᴰ c (passing test (suc i) k) → (suc i ≤ c) × (c < suc i + k) × (test c ≡ true))
         → Memᴰ c (passing test i (suc k)) → (i ≤ c) × (c < i + suc k) × (test c ≡ true)

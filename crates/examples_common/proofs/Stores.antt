@@ -25,7 +25,7 @@ use Rattle.layout.specs.Parts.{width, used, axiom_rows, set_rows, in_force, held
 use Rattle.store.specs.Fresh.{Fresh}
 use Rattle.layout.proofs.StoreSizes.{width_fits}
 use Rattle.rules.proofs.Bounds.{closure_bounded}
-use Rattle.store.proofs.Stored.{marks-fresh}
+use Rattle.store.proofs.Stored.{marks_fresh}
 use Rattle.examples_common.specs.Computed.{closure_of}
 
 differ : Bool → Bool → Bool
@@ -98,8 +98,8 @@ module _ (b : List ℕ) (F : Axioms) (store : List ℕ) (wf : WellFormed b) (ran
           (none_below (λ g. some_below (apart c g) (8 * width b)) (suc (roles b)) g
           (none_below (λ c. some_below (λ g. some_below (apart c g) (8 * width b)) (suc (roles b))) (concepts b) c none lc) (omega (arith, lg))) ld)
 
-  pub fresh-computed : used b ≤ length store → other_axiom b F store ≡ false → other_expression b F store ≡ false → other_byte b store ≡ false → Fresh b F store
+  pub fresh_computed : used b ≤ length store → other_axiom b F store ≡ false → other_expression b F store ≡ false → other_byte b store ≡ false → Fresh b F store
   unfolding other_byte
-  fresh-computed long axioms set bytes =
-      marks-fresh b F store wf range (axioms-marked axioms) (set-marked set) long
+  fresh_computed long axioms set bytes =
+      marks_fresh b F store wf range (axioms-marked axioms) (set-marked set) long
       (λ i l. leb-false 256 (get_or store i 0) (none_below (λ i. leb 256 (get_or store i 0)) (used b) i bytes l))

@@ -14,8 +14,8 @@ Rows S rows = (c d : ℕ) → (has (get_or rows c 0) d ≡ true) ↔ S (pair c d
 
 -- The least set of F has so many pairs and links, and these pair rows.
 pub record Classified (b : List ℕ) (F : ℕ → ℕ → Bool) (pairs links : ℕ) (rows : List ℕ) : Type 0 where
-  pub pairs-right : Size b (Pairs (Closure b F)) pairs
-  pub links-right : Size b (Links (Closure b F)) links
+  pub pairs_right : Size b (Pairs (Closure b F)) pairs
+  pub links_right : Size b (Links (Closure b F)) links
   pub rows_right : Rows (Closure b F) rows
 
 -- The change from F to G of the least set of F: the three counts, the broken partitions, those that gained, the touched ones, rising, and the set after it.
@@ -23,7 +23,7 @@ pub record Changed (b : List ℕ) (F G : ℕ → ℕ → Bool) (removed returned
   pub removed-right : Size b (OverDeleted b F G (Closure b F)) removed
   pub returned-right : Size b (ReturnedSet b F G (Closure b F)) returned
   pub gained-right : Size b (GainedSet b F G (Closure b F)) gained
-  pub broken-right : (c : ℕ) → Memᴰ c broken ↔ BrokenPartition b F G (Closure b F) c
-  pub gaining-right : (c : ℕ) → Memᴰ c gaining ↔ GainingPartition b F G (Closure b F) c
-  pub touched-right : Members (concepts b) (TouchedPartition b F G (Closure b F)) touched
+  pub broken_right : (c : ℕ) → Memᴰ c broken ↔ BrokenPartition b F G (Closure b F) c
+  pub gaining_right : (c : ℕ) → Memᴰ c gaining ↔ GainingPartition b F G (Closure b F) c
+  pub touched_right : Members (concepts b) (TouchedPartition b F G (Closure b F)) touched
   pub after : (e : Expression) → NewSet b F G (Closure b F) e ↔ Closure b G e

@@ -143,16 +143,16 @@ move4_left = classified w1 moved4 w1_well_formed move4_range 10 4 (73 ∷ 2 ∷ 
 
 -- ---- W1, two empty lists
 
-pub empty-asks : lists_asked w1 [] [] axioms1 ≡ accepted
+pub empty_asks : lists_asked w1 [] [] axioms1 ≡ accepted
 unfolding lists_asked w1
-empty-asks = refl
+empty_asks = refl
 
-empty-range : InRange w1 unmoved
-empty-range = changed_in_range w1 [] [] axioms1 empty-asks range1
+empty_range : InRange w1 unmoved
+empty_range = changed_in_range w1 [] [] axioms1 empty_asks range1
 
-empty-computed : Computes w1 axioms1 unmoved 0 0 0 [] [] []
+empty_computed : Computes w1 axioms1 unmoved 0 0 0 [] [] []
 unfolding removed_of returned_of gained_of broken_of gaining_of w1 rising on_list some
-empty-computed = (refl, refl, refl, refl, refl, refl)
+empty_computed = (refl, refl, refl, refl, refl, refl)
 
-pub empty-change : Changed w1 axioms1 unmoved 0 0 0 [] [] []
-empty-change = changed w1 axioms1 unmoved w1_well_formed range1 empty-range 0 0 0 [] [] [] empty-computed
+pub empty_change : Changed w1 axioms1 unmoved 0 0 0 [] [] []
+empty_change = changed w1 axioms1 unmoved w1_well_formed range1 empty_range 0 0 0 [] [] [] empty_computed

@@ -1,9 +1,9 @@
 -- The moves of W1, one theorem.
 use Rattle.catalogue.specs.Examples.{w1}
 use Rattle.examples_w1_w6.specs.Table.{axioms1}
-use Rattle.examples_common.proofs.Editing.{empty-keeps}
-use Rattle.examples_w1_moves.proofs.Calls.{move1_call, move2_call, move3_call, move4_call, empty-axioms, empty-call, asked22, asked23, asked15, asked18, asked16}
-use Rattle.examples_w1_moves.proofs.Moves.{move1_change, move1_left, move2_change, move2_left, move3_change, move3_left, move4_change, move4_left, empty-change}
+use Rattle.examples_common.proofs.Editing.{empty_keeps}
+use Rattle.examples_w1_moves.proofs.Calls.{move1_call, move2_call, move3_call, move4_call, empty_axioms, empty_call, asked22, asked23, asked15, asked18, asked16}
+use Rattle.examples_w1_moves.proofs.Moves.{move1_change, move1_left, move2_change, move2_left, move3_change, move3_left, move4_change, move4_left, empty_change}
 use Rattle.examples_w1_moves.specs.Table.{Table}
 
 pub table : Table
@@ -25,8 +25,8 @@ table = record {
   W1_asked15 = asked15;
   W1_asked18 = asked18;
   W1_asked16 = asked16;
-  W1-empty = empty-change;
-  W1-empty-axioms = empty-axioms;
-  W1-empty-call = empty-call;
-  W1-empty-store = empty-keeps w1 axioms1;
+  W1_empty = empty_change;
+  W1_empty_axioms = empty_axioms;
+  W1_empty_call = empty_call;
+  W1_empty_store = empty_keeps w1 axioms1;
 }

@@ -55,7 +55,7 @@ pub record Table : Type 0 where
   pub W1_asked18 : change_checks w1 (1 ∷ 0 ∷ 3 ∷ 0 ∷ []) (0 ∷ 0 ∷ 4 ∷ 0 ∷ []) (lent 35 28 14) true true axioms1 ≡ refused 18 0
   pub W1_asked16 : change_checks w1 (1 ∷ 0 ∷ 5 ∷ 0 ∷ []) (0 ∷ 0 ∷ 4 ∷ 0 ∷ []) (lent 35 28 14) true true axioms1 ≡ refused 16 0
   -- W1, two empty lists: 0, 0, 0, none touched, and the store stays, byte by byte.
-  pub W1-empty : Changed w1 axioms1 unmoved 0 0 0 [] [] []
-  pub W1-empty-axioms : unmoved ≡ axioms1
-  pub W1-empty-call : ChangeGives w1 [] [] axioms1 axioms1 28 14 (Done 0 0 0 0) []
-  pub W1-empty-store : (u : Lent) (answer : edit.Changed) (v : Lent) → Edits w1 [] [] u answer v → Fresh w1 axioms1 u.store → v.store ≡ u.store
+  pub W1_empty : Changed w1 axioms1 unmoved 0 0 0 [] [] []
+  pub W1_empty_axioms : unmoved ≡ axioms1
+  pub W1_empty_call : ChangeGives w1 [] [] axioms1 axioms1 28 14 (Done 0 0 0 0) []
+  pub W1_empty_store : (u : Lent) (answer : edit.Changed) (v : Lent) → Edits w1 [] [] u answer v → Fresh w1 axioms1 u.store → v.store ≡ u.store

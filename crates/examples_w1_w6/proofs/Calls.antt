@@ -8,11 +8,11 @@ use lib.ListN.{length}
 use Rattle.catalogue.specs.Words.{bytes_of}
 use Rattle.catalogue.specs.Outcome.{accepted}
 use Rattle.catalogue.specs.Examples.{w1}
-use Rattle.catalogue.proofs.Examples.{w1-accepted}
+use Rattle.catalogue.proofs.Examples.{w1_accepted}
 use Rattle.rules.specs.Axioms.{Axioms}
 use Rattle.layout.specs.Parts.{work_used}
 use Rattle.store.specs.Written.{numbered, axiom_count}
-use Rattle.store.proofs.Examples.{w1-lengths, w1_axiom_count}
+use Rattle.store.proofs.Examples.{w1_lengths, w1_axiom_count}
 use Rattle.change_contract.specs.Lists.{edited}
 use Rattle.change_contract.specs.Questions.{all_in_force}
 use Rattle.change_contract.specs.declared.Changed.TheVariants.{Done}
@@ -20,14 +20,14 @@ use Rattle.examples_common.specs.Calls.{ChangeGives}
 use Rattle.examples_common.specs.Entries.{Changed}
 use Rattle.examples_common.specs.Computed.{closure_of}
 use Rattle.examples_w1_w6.specs.Table.{axioms1, axioms3, axioms5, axioms6, axioms6'}
-use Rattle.examples_common.proofs.Editing.{lists_asked, change-gives, put_back}
+use Rattle.examples_common.proofs.Editing.{lists_asked, change_gives, put_back}
 use Rattle.examples_w1_w6.proofs.Reading.{seven, w3_axiom_count}
 use Rattle.examples_w1_w6.proofs.W3.{w3_asks, w3_change, w5_asks, w5_change}
 use Rattle.examples_w1_w6.proofs.W6.{w6_asks, w6_change}
 
 -- How many axioms there are.
-pub w1-few : axiom_count w1 axioms1 ≤ 4096
-w1-few = omega (arith, w1_axiom_count)
+pub w1_few : axiom_count w1 axioms1 ≤ 4096
+w1_few = omega (arith, w1_axiom_count)
 
 w6_axiom_count : axiom_count w1 axioms6 ≡ 4
 unfolding closure_of w1 numbered axiom_count
@@ -46,13 +46,13 @@ pub w1-gives : (withdrawn added : List ℕ) (F : Axioms) → lists_asked w1 with
     → (x y z : ℕ) (broken gaining touched : List ℕ) → Changed w1 F (edited F withdrawn added) x y z broken gaining touched
     → ChangeGives w1 withdrawn added F (edited F withdrawn added) 28 14 (Done x y z (length touched)) (bytes_of touched)
 w1-gives withdrawn added F asks few x y z broken gaining touched c =
-    subst (λ (k : ℕ). ChangeGives w1 withdrawn added F (edited F withdrawn added) k 14 (Done x y z (length touched)) (bytes_of touched)) w1-lengths.1
+    subst (λ (k : ℕ). ChangeGives w1 withdrawn added F (edited F withdrawn added) k 14 (Done x y z (length touched)) (bytes_of touched)) w1_lengths.1
     (subst (λ (n : ℕ). ChangeGives w1 withdrawn added F (edited F withdrawn added) (work_used w1) (2 * n) (Done x y z (length touched)) (bytes_of touched)) seven
-    (change-gives w1 withdrawn added F asks w1-accepted few x y z broken gaining touched c))
+    (change_gives w1 withdrawn added F asks w1_accepted few x y z broken gaining touched c))
 
 pub w3_withdraw : ChangeGives w1 (1 ∷ 0 ∷ 5 ∷ 0 ∷ []) [] axioms1 axioms3 28 14 (Done 10 0 0 4) (0 ∷ 0 ∷ 1 ∷ 0 ∷ 4 ∷ 0 ∷ 5 ∷ 0 ∷ [])
 unfolding bytes_of
-w3_withdraw = w1-gives (1 ∷ 0 ∷ 5 ∷ 0 ∷ []) [] axioms1 w3_asks w1-few 10 0 0 (0 ∷ 1 ∷ 4 ∷ 5 ∷ []) [] (0 ∷ 1 ∷ 4 ∷ 5 ∷ []) w3_change
+w3_withdraw = w1-gives (1 ∷ 0 ∷ 5 ∷ 0 ∷ []) [] axioms1 w3_asks w1_few 10 0 0 (0 ∷ 1 ∷ 4 ∷ 5 ∷ []) [] (0 ∷ 1 ∷ 4 ∷ 5 ∷ []) w3_change
 
 pub w5_add : ChangeGives w1 [] (1 ∷ 0 ∷ 5 ∷ 0 ∷ []) axioms3 axioms1 28 14 (Done 0 0 10 4) (0 ∷ 0 ∷ 1 ∷ 0 ∷ 4 ∷ 0 ∷ 5 ∷ 0 ∷ [])
 unfolding bytes_of

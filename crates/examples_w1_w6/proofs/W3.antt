@@ -13,7 +13,7 @@ use Rattle.rules.specs.Axioms.{InRange}
 use Rattle.store.specs.Written.{rising}
 use Rattle.store.specs.Fresh.{Fresh}
 use Rattle.store.proofs.Fresh.{fresh_unique}
-use Rattle.store.proofs.Examples.{w1-lengths}
+use Rattle.store.proofs.Examples.{w1_lengths}
 use Rattle.change_contract.proofs.Members.{on_list}
 use Rattle.examples_w1_w6.specs.Stores.{w3_store}
 use Rattle.examples_common.specs.Entries.{Classified, Changed}
@@ -22,7 +22,7 @@ use Rattle.examples_w1_w6.specs.Table.{axioms1, axioms3, axioms5}
 use Rattle.examples_common.proofs.Classified.{classified}
 use Rattle.examples_common.proofs.Changed.{Computes, changed}
 use Rattle.examples_common.proofs.Editing.{lists_asked, changed_in_range}
-use Rattle.examples_common.proofs.Stores.{other_axiom, other_expression, other_byte, fresh-computed}
+use Rattle.examples_common.proofs.Stores.{other_axiom, other_expression, other_byte, fresh_computed}
 use Rattle.catalogue.proofs.Examples.{w1_well_formed}
 use Rattle.examples_w1_w6.proofs.W1.{range1}
 
@@ -74,11 +74,11 @@ unfolding other_byte w1 w3_store
 w3_store_bytes = refl
 
 pub w3_fresh : Fresh w1 axioms3 w3_store
-w3_fresh = fresh-computed w1 axioms3 w3_store w1_well_formed range3 (omega (arith, w1-lengths.0, w3_store_long)) w3_store_axioms w3_store_set w3_store_bytes
+w3_fresh = fresh_computed w1 axioms3 w3_store w1_well_formed range3 (omega (arith, w1_lengths.0, w3_store_long)) w3_store_axioms w3_store_set w3_store_bytes
 
 pub w3_front : (store : List ℕ) → Fresh w1 axioms3 store → take 35 store ≡ w3_store
 w3_front store fresh =
-    subst (λ (k : ℕ). take k store ≡ take k w3_store) w1-lengths.0 (fresh_unique w1 axioms3 axioms3 store w3_store w1_well_formed (λ c d. refl) fresh w3_fresh)
+    subst (λ (k : ℕ). take k store ≡ take k w3_store) w1_lengths.0 (fresh_unique w1 axioms3 axioms3 store w3_store w1_well_formed (λ c d. refl) fresh w3_fresh)
     ∙ take_all 35 w3_store (omega (arith, w3_store_long))
 
 -- ---- added back

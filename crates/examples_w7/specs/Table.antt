@@ -23,13 +23,13 @@ moved7 = edited axioms7 (0 ∷ 0 ∷ 1 ∷ 0 ∷ []) (0 ∷ 0 ∷ 2 ∷ 0 ∷ []
 pub record Table : Type 0 where
   -- W7: 7 pairs; withdraw (0,1): removed 2, returned 0, touched 0, 5 pairs left: 0 keeps its own.
   pub W7 : Classified w7 axioms7 7 0 (7 ∷ 6 ∷ 6 ∷ [])
-  pub W7-change : Changed w7 axioms7 axioms7' 2 0 0 (0 ∷ []) [] (0 ∷ [])
+  pub W7_change : Changed w7 axioms7 axioms7' 2 0 0 (0 ∷ []) [] (0 ∷ [])
   pub W7_withdraw : ChangeGives w7 (0 ∷ 0 ∷ 1 ∷ 0 ∷ []) [] axioms7 axioms7' 3 6 (Done 2 0 0 1) (0 ∷ 0 ∷ [])
-  pub W7-left : Classified w7 axioms7' 5 0 (1 ∷ 6 ∷ 6 ∷ [])
+  pub W7_left : Classified w7 axioms7' 5 0 (1 ∷ 6 ∷ 6 ∷ [])
   -- Classify answers 7 pairs and no link, and leaves W7's store of 6 bytes: rows of axioms, and then the pair rows 7, 6, 6.
-  pub W7-classify : ClassifyGives w7 6 3 7 0 w7_store
-  pub W7-rows : take 3 (drop 3 w7_store) ≡ 7 ∷ 6 ∷ 6 ∷ []
-  pub W7-fresh : Fresh w7 axioms7 w7_store
+  pub W7_classify : ClassifyGives w7 6 3 7 0 w7_store
+  pub W7_rows : take 3 (drop 3 w7_store) ≡ 7 ∷ 6 ∷ 6 ∷ []
+  pub W7_fresh : Fresh w7 axioms7 w7_store
   -- W7, (0,1) out and (0,2) in: removed 2, returned 2, gained 0; touched 0; all 7 pairs are left.
   pub W7_move : Changed w7 axioms7 moved7 2 2 0 (0 ∷ []) [] (0 ∷ [])
   pub W7_move_call : ChangeGives w7 (0 ∷ 0 ∷ 1 ∷ 0 ∷ []) (0 ∷ 0 ∷ 2 ∷ 0 ∷ []) axioms7 moved7 3 6 (Done 2 2 0 1) (0 ∷ 0 ∷ [])

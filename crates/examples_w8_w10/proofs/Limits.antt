@@ -7,29 +7,29 @@ use Rattle.catalogue.specs.Header.{concepts, roles, axioms}
 use Rattle.catalogue.specs.Outcome.{accepted, refused}
 use Rattle.catalogue.specs.Checks.{checked}
 use Rattle.rows.specs.Bits.{count_below}
-use Rattle.rows.proofs.Counting.{count-all}
+use Rattle.rows.proofs.Counting.{count_all}
 use Rattle.rules.specs.Occurrence.{has_kind}
-use Rattle.rules.proofs.Rules.{kind-exact}
+use Rattle.rules.proofs.Rules.{kind_exact}
 use Rattle.layout.specs.Parts.{width, used, work_used}
 use Rattle.store.specs.Examples.{atomic_header, atomic_concepts}
-use Rattle.store.proofs.AtomicConcepts.{atomic-count, zero_record, atomic-accepted, atomic_too_many}
+use Rattle.store.proofs.AtomicConcepts.{atomic_count, zero_record, atomic_accepted, atomic_too_many}
 use Rattle.examples_w8_w10.specs.Stores.{atomic_store}
 use Rattle.examples_common.specs.Calls.{ClassifyGives}
-use Rattle.examples_w8_w10.proofs.W8.{w8-classify}
+use Rattle.examples_w8_w10.proofs.W8.{w8_classify}
 
-pub most-accepted : checked (atomic_concepts 512) ≡ accepted
-most-accepted = atomic-accepted 512 (lit≤ tt) (lit≤ tt)
+pub most_accepted : checked (atomic_concepts 512) ≡ accepted
+most_accepted = atomic_accepted 512 (lit≤ tt) (lit≤ tt)
 
 pub too_many_refused : checked (atomic_concepts 513) ≡ refused 3 0
 too_many_refused = atomic_too_many 513 (lit≤ tt)
 
-pub most-used : used (atomic_concepts 512) ≡ 65536
+pub most_used : used (atomic_concepts 512) ≡ 65536
 unfolding atomic_concepts atomic_header bytes_of word concepts roles width used
-most-used = refl
+most_used = refl
 
-pub most-work : work_used (atomic_concepts 512) ≡ 32768
+pub most_work : work_used (atomic_concepts 512) ≡ 32768
 unfolding atomic_concepts atomic_header bytes_of word concepts roles width work_used
-most-work = refl
+most_work = refl
 
 no_axioms_lem : axioms (atomic_concepts 512) ≡ 0
 unfolding atomic_concepts atomic_header bytes_of word axioms
@@ -38,14 +38,14 @@ no_axioms_lem = refl
 abbrev atoms : ℕ
 atoms = count_below (has_kind (atomic_concepts 512) 0) (concepts (atomic_concepts 512))
 
-all-atomic : atoms ≡ 512
-all-atomic =
-    count-all (has_kind (atomic_concepts 512) 0) (concepts (atomic_concepts 512)) (λ i l. (kind-exact (atomic_concepts 512) 0 i).1 (l, (zero_record 512 i l).0))
-    ∙ atomic-count 512
+all_atomic : atoms ≡ 512
+all_atomic =
+    count_all (has_kind (atomic_concepts 512) 0) (concepts (atomic_concepts 512)) (λ i l. (kind_exact (atomic_concepts 512) 0 i).1 (l, (zero_record 512 i l).0))
+    ∙ atomic_count 512
 
-pub most-classified : ClassifyGives (atomic_concepts 512) 65536 32768 512 0 (atomic_store (atomic_concepts 512))
-most-classified =
-    subst (λ (k : ℕ). ClassifyGives (atomic_concepts 512) 65536 32768 k 0 (atomic_store (atomic_concepts 512))) all-atomic
-    (subst (λ (k : ℕ). ClassifyGives (atomic_concepts 512) 65536 k atoms 0 (atomic_store (atomic_concepts 512))) most-work
-    (subst (λ (k : ℕ). ClassifyGives (atomic_concepts 512) k (work_used (atomic_concepts 512)) atoms 0 (atomic_store (atomic_concepts 512))) most-used
-    (w8-classify (atomic_concepts 512) most-accepted no_axioms_lem)))
+pub most_classified : ClassifyGives (atomic_concepts 512) 65536 32768 512 0 (atomic_store (atomic_concepts 512))
+most_classified =
+    subst (λ (k : ℕ). ClassifyGives (atomic_concepts 512) 65536 32768 k 0 (atomic_store (atomic_concepts 512))) all_atomic
+    (subst (λ (k : ℕ). ClassifyGives (atomic_concepts 512) 65536 k atoms 0 (atomic_store (atomic_concepts 512))) most_work
+    (subst (λ (k : ℕ). ClassifyGives (atomic_concepts 512) k (work_used (atomic_concepts 512)) atoms 0 (atomic_store (atomic_concepts 512))) most_used
+    (w8_classify (atomic_concepts 512) most_accepted no_axioms_lem)))

@@ -18,7 +18,7 @@ use Rattle.layout.proofs.StoreRows.{rows_long, bit_axiom_rows, in_force_bit, no_
 use Rattle.store.specs.Written.{axiom_count}
 use Rattle.store.specs.Checks.{every, numbers_below}
 use Rattle.store.specs.Examples.{atomic_header, atomic_concepts}
-use Rattle.store.proofs.AtomicConcepts.{atomic-count}
+use Rattle.store.proofs.AtomicConcepts.{atomic_count}
 use Rattle.store.proofs.Counts.{axiom_count_lem}
 use Rattle.change_contract.specs.Lists.{axioms_in, left_in, right_in, among, sides_below, sides_in}
 use Rattle.change_contract.specs.Questions.{is_whole, repeats, none_twice}
@@ -26,7 +26,7 @@ use Rattle.examples_w8_w10.specs.Stores.{full_store, full_lent}
 use Rattle.change_contract.specs.Single.{one}
 use Rattle.examples_w8_w10.specs.Full.{Full, MeetsFull, MeetsMove}
 use Rattle.examples_w8_w10.proofs.Full.{w10_in_force, w10_new, w10_move}
-use Rattle.examples_w8_w10.proofs.Limits.{most-accepted, most-used, most-work}
+use Rattle.examples_w8_w10.proofs.Limits.{most_accepted, most_used, most_work}
 
 -- ---- the store's bytes and bits
 
@@ -47,9 +47,9 @@ clear_byte i l =
     ∙ get_or-append-add (replicate 512 255) (replicate 65024 0) i 0
     ∙ get_or-replicate 65024 i 0 0 l
 
-clear-bit : (j : ℕ) → 4096 ≤ j → j < 8 * 65536 → bit full_store j ≡ false
+clear_bit_lem : (j : ℕ) → 4096 ≤ j → j < 8 * 65536 → bit full_store j ≡ false
 unfolding bit
-clear-bit j low high =
+clear_bit_lem j low high =
     ap (λ (i : ℕ). byte_bit (get_or full_store i 0) (j % 8)) (let z : j / 8 ≡ 512 + (j / 8 - 512) = omega arith in z)
     ∙ ap (λ (x : ℕ). byte_bit x (j % 8)) (clear_byte (j / 8 - 512) (omega arith))
     ∙ byte_bit-zero (j % 8)
@@ -61,28 +61,28 @@ unfolding ones
 ones_full = refl
 
 -- Eight to a full byte.
-full-count : (i : ℕ) → i ≤ 512 → count_below (bit full_store) (8 * i) ≡ 8 * i
+full_count : (i : ℕ) → i ≤ 512 → count_below (bit full_store) (8 * i) ≡ 8 * i
 unfolding count_below
-full-count zero l = refl
-full-count (suc i) l =
+full_count zero l = refl
+full_count (suc i) l =
     let own : get_or full_store i 0 ≡ 255 = full_byte i l in
     ap (λ (k : ℕ). count_below (bit full_store) (8 * k)) (let z : suc i ≡ i + 1 = omega arith in z)
     ∙ count_byte full_store i (omega (arith, own))
-    ∙ ap₂ ◌+◌ (full-count i (omega arith)) (ap ones own ∙ ones_full)
+    ∙ ap₂ ◌+◌ (full_count i (omega arith)) (ap ones own ∙ ones_full)
     ∙ (let z : 8 * i + 8 ≡ 8 * suc i = omega arith in z)
 
-most-width : width (atomic_concepts 512) ≡ 64
+most_width : width (atomic_concepts 512) ≡ 64
 unfolding atomic_concepts atomic_header bytes_of word concepts width
-most-width = refl
+most_width = refl
 
 long : used (atomic_concepts 512) ≤ length full_store
-long = omega (arith, most-used, store_long)
+long = omega (arith, most_used, store_long)
 
 clear : spare_clear (atomic_concepts 512) full_store ≡ true
-clear = no_spare (atomic_concepts 512) full_store (ap (λ (n : ℕ). n % 8) (atomic-count 512))
+clear = no_spare (atomic_concepts 512) full_store (ap (λ (n : ℕ). n % 8) (atomic_count 512))
 
 rows_end : concepts (atomic_concepts 512) * width (atomic_concepts 512) ≡ 32768
-rows_end = ap₂ ◌*◌ (atomic-count 512) most-width
+rows_end = ap₂ ◌*◌ (atomic_count 512) most_width
 
 count : axiom_count (atomic_concepts 512) (in_force (atomic_concepts 512) full_store) ≡ 4096
 unfolding count_bits
@@ -91,15 +91,15 @@ count =
     sym (axiom_count_lem b full_store long clear)
     ∙ ap (λ (k : ℕ). count_below (bit (axiom_rows b full_store)) (8 * k)) (rows_long b full_store long ∙ rows_end)
     ∙ count_ext (bit (axiom_rows b full_store)) (bit full_store) (8 * 32768) (λ j l. bit_axiom_rows b full_store j (omega (arith, rows_end)))
-    ∙ count_skip (bit full_store) 4096 (8 * 32768) (lit≤ tt) (λ j low high. clear-bit j low (omega arith))
-    ∙ full-count 512 (lit≤ tt)
+    ∙ count_skip (bit full_store) 4096 (8 * 32768) (lit≤ tt) (λ j low high. clear_bit_lem j low (omega arith))
+    ∙ full_count 512 (lit≤ tt)
 
 -- Axiom (c, 0) is the first bit of row c.
 first_in_row : (c : ℕ) → c < 512 → in_force (atomic_concepts 512) full_store c 0 ≡ bit full_store (place 64 c 0)
 first_in_row c l =
     let b = atomic_concepts 512 in
-    in_force_bit b full_store c 0 (omega (arith, atomic-count 512)) (omega (arith, most-width))
-    ∙ ap (λ (w : ℕ). bit full_store (place w c 0)) most-width
+    in_force_bit b full_store c 0 (omega (arith, atomic_count 512)) (omega (arith, most_width))
+    ∙ ap (λ (w : ℕ). bit full_store (place w c 0)) most_width
 
 there : in_force (atomic_concepts 512) full_store 0 0 ≡ true
 unfolding bit byte_bit place
@@ -107,7 +107,7 @@ there = first_in_row 0 (lit< tt) ∙ ap (λ (x : ℕ). byte_bit x 0) (full_byte 
 
 not_there : in_force (atomic_concepts 512) full_store 8 0 ≡ false
 unfolding place
-not_there = first_in_row 8 (lit< tt) ∙ clear-bit 4096 (lit≤ tt) (lit< tt)
+not_there = first_in_row 8 (lit< tt) ∙ clear_bit_lem 4096 (lit≤ tt) (lit< tt)
 
 -- ---- the calls
 
@@ -115,12 +115,12 @@ full : (withdrawn added : List ℕ) → is_whole (length withdrawn) ≡ true →
     → numbers_below (atomic_concepts 512) (sides_in (withdrawn ++ added)) ≡ true → Full (atomic_concepts 512) withdrawn added full_lent
 full withdrawn added p q once numbers =
     record {
-      catalogue = most-accepted;
+      catalogue = most_accepted;
       store_long = long;
-      work-long = omega (arith, most-work, length-replicate {A = ℕ} 32768 0);
-      list-long = omega (arith, atomic-count 512, length-replicate {A = ℕ} 1024 0);
-      withdrawn-whole = p;
-      added-whole = q;
+      work_long = omega (arith, most_work, length-replicate {A = ℕ} 32768 0);
+      list_long = omega (arith, atomic_count 512, length-replicate {A = ℕ} 1024 0);
+      withdrawn_whole = p;
+      added_whole = q;
       once = once;
       clear = clear;
       full = count;
@@ -128,23 +128,23 @@ full withdrawn added p q once numbers =
     }
 
 -- What the three changes ask of their lists.
-first-full : Full (atomic_concepts 512) [] (one 0 0) full_lent
+first_full : Full (atomic_concepts 512) [] (one 0 0) full_lent
 unfolding atomic_concepts atomic_header bytes_of word concepts some_below every axioms_in left_in right_in among sides_below sides_in is_whole repeats none_twice
-first-full = full [] (one 0 0) refl refl refl refl
+first_full = full [] (one 0 0) refl refl refl refl
 
-new-full : Full (atomic_concepts 512) [] (one 8 0) full_lent
-unfolding first-full
-new-full = full [] (one 8 0) refl refl refl refl
+new_full : Full (atomic_concepts 512) [] (one 8 0) full_lent
+unfolding first_full
+new_full = full [] (one 8 0) refl refl refl refl
 
 move_full : Full (atomic_concepts 512) (one 0 0) (one 8 0) full_lent
-unfolding first-full
+unfolding first_full
 move_full = full (one 0 0) (one 8 0) refl refl refl refl
 
 pub w10_met_in_force : MeetsFull (atomic_concepts 512) 0 0 full_lent true 16
-w10_met_in_force = record { full = first-full; there-is = there; refuses = w10_in_force (atomic_concepts 512) 0 0 full_lent first-full there }
+w10_met_in_force = record { full = first_full; there_is = there; refuses = w10_in_force (atomic_concepts 512) 0 0 full_lent first_full there }
 
 pub w10_met_new : MeetsFull (atomic_concepts 512) 8 0 full_lent false 17
-w10_met_new = record { full = new-full; there-is = not_there; refuses = w10_new (atomic_concepts 512) 8 0 full_lent new-full not_there }
+w10_met_new = record { full = new_full; there_is = not_there; refuses = w10_new (atomic_concepts 512) 8 0 full_lent new_full not_there }
 
 pub w10_met_move : MeetsMove (atomic_concepts 512) 0 0 8 0 full_lent
 w10_met_move =

@@ -18,10 +18,10 @@ use Rattle.change_contract.specs.declared.Changed.TheVariants as edit
 pub record Full (b withdrawn added : List ℕ) (u : Lent) : Type 0 where
   pub catalogue : checked b ≡ accepted
   pub store_long : used b ≤ length u.store
-  pub work-long : work_used b ≤ length u.work
-  pub list-long : 2 * concepts b ≤ length u.list
-  pub withdrawn-whole : is_whole (length withdrawn) ≡ true
-  pub added-whole : is_whole (length added) ≡ true
+  pub work_long : work_used b ≤ length u.work
+  pub list_long : 2 * concepts b ≤ length u.list
+  pub withdrawn_whole : is_whole (length withdrawn) ≡ true
+  pub added_whole : is_whole (length added) ≡ true
   pub once : none_twice (withdrawn ++ added) ≡ true
   pub clear : spare_clear b u.store ≡ true
   pub full : axiom_count b (in_force b u.store) ≡ 4096
@@ -61,7 +61,7 @@ FullMoves =
 -- Buffers that show that this is met: 4,096 axioms are in force in the store, this one among them or not, and adding it is refused by the number.
 pub record MeetsFull (b : List ℕ) (l r : ℕ) (u : Lent) (there : Bool) (number : ℕ) : Type 0 where
   pub full : Full b [] (one l r) u
-  pub there-is : in_force b u.store l r ≡ there
+  pub there_is : in_force b u.store l r ≡ there
   pub refuses : ChangeRefuses b [] (one l r) u number
 
 -- The same for a change with one out and one in.

@@ -35,28 +35,28 @@ pub record Table : Type 0 where
   -- ---- W8
   -- W8: no axioms: the atomic records occur and no others, and each lies under itself alone.
   pub W8 : (b : List ℕ) → WellFormed b → (e : Expression) → Closure b none e ↔ AtomicPair b e
-  pub W8-occur : (b : List ℕ) (c : ℕ) → Occurs b none c ↔ Atomic b c
+  pub W8_occur : (b : List ℕ) (c : ℕ) → Occurs b none c ↔ Atomic b c
   -- Classify of an accepted catalogue without axioms answers a pair for each atomic record and no link, and leaves these bytes in the used
   -- part, which are classified afresh.
-  pub W8-classify : (b : List ℕ) → checked b ≡ accepted → axioms b ≡ 0
+  pub W8_classify : (b : List ℕ) → checked b ≡ accepted → axioms b ≡ 0
       → ClassifyGives b (used b) (work_used b) (count_below (has_kind b 0) (concepts b)) 0 (atomic_store b)
-  pub W8-fresh : (b : List ℕ) → WellFormed b → Fresh b none (atomic_store b)
+  pub W8_fresh : (b : List ℕ) → WellFormed b → Fresh b none (atomic_store b)
   -- Lookups in such a store: of atomic records yes on themselves and no otherwise; 19 where a top or a composite is named.
-  pub W8-itself : (b store : List ℕ) → checked b ≡ accepted → take (used b) store ≡ atomic_store b → (c : ℕ) → Atomic b c → looked_up b c c store ≡ Yes
-  pub W8-others : (b store : List ℕ) → checked b ≡ accepted → take (used b) store ≡ atomic_store b
+  pub W8_itself : (b store : List ℕ) → checked b ≡ accepted → take (used b) store ≡ atomic_store b → (c : ℕ) → Atomic b c → looked_up b c c store ≡ Yes
+  pub W8_others : (b store : List ℕ) → checked b ≡ accepted → take (used b) store ≡ atomic_store b
       → (c d : ℕ) → Atomic b c → Atomic b d → ¬ (c ≡ d) → looked_up b c d store ≡ No
-  pub W8-absent : (b store : List ℕ) → checked b ≡ accepted → take (used b) store ≡ atomic_store b
+  pub W8_absent : (b store : List ℕ) → checked b ≡ accepted → take (used b) store ≡ atomic_store b
       → (c d : ℕ) → c < concepts b → d < concepts b → ¬ (Atomic b c × Atomic b d) → looked_up b c d store ≡ Refused 19 0
   -- W1's catalogue without its axioms gives 4 pairs; adding (0,4) gains 4, touched 0 and 4.
-  pub W8-bytes : written w1 none ≡ w8
-  pub W8-W1 : ClassifyGives w8 35 28 4 0 w8_store
-  pub W8-change : Changed w8 none axioms8 0 0 4 [] (0 ∷ 4 ∷ []) (0 ∷ 4 ∷ [])
-  pub W8-add : ChangeGives w8 [] (0 ∷ 0 ∷ 4 ∷ 0 ∷ []) none axioms8 28 14 (Done 0 0 4 2) (0 ∷ 0 ∷ 4 ∷ 0 ∷ [])
+  pub W8_bytes : written w1 none ≡ w8
+  pub W8_W1 : ClassifyGives w8 35 28 4 0 w8_store
+  pub W8_change : Changed w8 none axioms8 0 0 4 [] (0 ∷ 4 ∷ []) (0 ∷ 4 ∷ [])
+  pub W8_add : ChangeGives w8 [] (0 ∷ 0 ∷ 4 ∷ 0 ∷ []) none axioms8 28 14 (Done 0 0 4 2) (0 ∷ 0 ∷ 4 ∷ 0 ∷ [])
   -- ---- W9, W10, and the limits
   -- W9: n = 7 with bit 7 of any row set: 13; n = 8: no spare bit, whatever the store.
   pub W9 : map (λ (r : ℕ). ask_spare (spare_clear w1 (set_bit (replicate 35 0) (8 * r + 7))) accepted) (rising (λ (r : ℕ). true) 35) ≡ replicate 35 (refused 13 0)
-  pub W9-lookup : map (λ (r : ℕ). looked_up w1 0 3 (set_bit w1_store (8 * r + 7))) (rising (λ (r : ℕ). true) 35) ≡ replicate 35 (Refused 13 0)
-  pub W9-none : (store : List ℕ) → ask_spare (spare_clear (atomic_concepts 8) store) accepted ≡ accepted
+  pub W9_lookup : map (λ (r : ℕ). looked_up w1 0 3 (set_bit w1_store (8 * r + 7))) (rising (λ (r : ℕ). true) 35) ≡ replicate 35 (Refused 13 0)
+  pub W9_none : (store : List ℕ) → ask_spare (spare_clear (atomic_concepts 8) store) accepted ≡ accepted
   -- W10: adding an axiom in force at 4,096: 16; a new one: 17; one out and a new one in: accepted.
   pub W10_in_force : FullRefuses true 16
   pub W10_new : FullRefuses false 17

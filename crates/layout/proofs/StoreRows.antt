@@ -13,7 +13,7 @@ use lib.Seq.{length-take-le}
 use borrow.Author.Tests.{lt-ltb, not-true}
 use Rattle.catalogue.specs.Header.{concepts, roles}
 use Rattle.rows.specs.Bits.{bit, place}
-use Rattle.rows.proofs.Counting.{some-none, none_below}
+use Rattle.rows.proofs.Counting.{some_none, none_below}
 use Rattle.booleans.proofs.Booleans.{not-both}
 use Rattle.rules.specs.Axioms.{InRange}
 use Rattle.rules.specs.Rules.{Expression, fact, pair, link, Bounded}
@@ -24,40 +24,40 @@ use Rattle.layout.proofs.Places.{row_of_below}
 use Rattle.rows.proofs.RowParts.{bit_mid}
 use Rattle.layout.proofs.BlockRows.{marks-bit, marks_elim, table_elim}
 use Rattle.layout.specs.Parts.{width, used, axiom_row_at, pair_row_at, link_row_at, row_at, axiom_rows, set_rows, in_force, held, row_count, set_from, spare_clear}
-use Rattle.layout.proofs.StoreSizes.{table-long, block_long, used_split, rows_split, width_fits}
+use Rattle.layout.proofs.StoreSizes.{table_long, block_long, used_split, rows_split, width_fits}
 use Rattle.layout.proofs.Sizes.{shape_table}
 
 -- ---- bits of the two parts
 
-bit-part : (xs : List ℕ) (a k i : ℕ) → i < 8 * k → bit (take k (drop a xs)) i ≡ bit xs (8 * a + i)
-bit-part xs a k i h =
+bit_part : (xs : List ℕ) (a k i : ℕ) → i < 8 * k → bit (take k (drop a xs)) i ≡ bit xs (8 * a + i)
+bit_part xs a k i h =
     ap (λ e. bit (take e (drop a xs)) i) (let z : k ≡ (a + k) - a = omega arith in z)
     ∙ bit_mid xs a (a + k) i (omega arith)
 
-pub bit-front : (xs : List ℕ) (k i : ℕ) → i < 8 * k → bit (take k xs) i ≡ bit xs i
-bit-front xs k i h = bit-part xs 0 k i h ∙ ap (bit xs) (let z : 8 * 0 + i ≡ i = omega arith in z)
+pub bit_front : (xs : List ℕ) (k i : ℕ) → i < 8 * k → bit (take k xs) i ≡ bit xs i
+bit_front xs k i h = bit_part xs 0 k i h ∙ ap (bit xs) (let z : 8 * 0 + i ≡ i = omega arith in z)
 
 pub bit_axiom_rows : (b store : List ℕ) (i : ℕ) → i < 8 * (concepts b * width b) → bit (axiom_rows b store) i ≡ bit store i
 unfolding axiom_rows
-bit_axiom_rows b store i h = bit-front store (table_length (shape_of b)) i (omega (arith, table-long b))
+bit_axiom_rows b store i h = bit_front store (table_length (shape_of b)) i (omega (arith, table_long b))
 
-bit-set-rows : (b store : List ℕ) (i : ℕ) → i < 8 * ((concepts b + concepts b * roles b) * width b) → bit (set_rows b store) i ≡ bit store (8 * (concepts b * width b) + i)
+bit_set_rows : (b store : List ℕ) (i : ℕ) → i < 8 * ((concepts b + concepts b * roles b) * width b) → bit (set_rows b store) i ≡ bit store (8 * (concepts b * width b) + i)
 unfolding set_rows
-bit-set-rows b store i h =
-    bit-part store (table_length (shape_of b)) (block_length (shape_of b)) i (omega (arith, block_long b))
-    ∙ ap (bit store) (let z : 8 * table_length (shape_of b) + i ≡ 8 * (concepts b * width b) + i = omega (arith, table-long b) in z)
+bit_set_rows b store i h =
+    bit_part store (table_length (shape_of b)) (block_length (shape_of b)) i (omega (arith, block_long b))
+    ∙ ap (bit store) (let z : 8 * table_length (shape_of b) + i ≡ 8 * (concepts b * width b) + i = omega (arith, table_long b) in z)
 
 -- The axiom rows as a call lends them: the first n rows.
 pub rows_taken : (b store : List ℕ) {s : Shape} → s ≡ shape_of b → take (s.concepts * s.width) store ≡ axiom_rows b store
 unfolding axiom_rows
-rows_taken b store e = ap (λ (k : ℕ). take k store) (shape_table b e ∙ sym (table-long b))
+rows_taken b store e = ap (λ (k : ℕ). take k store) (shape_table b e ∙ sym (table_long b))
 
 pub rows_long : (b store : List ℕ) → used b ≤ length store → length (axiom_rows b store) ≡ concepts b * width b
 unfolding axiom_rows
-rows_long b store long = length-take-le (table_length (shape_of b)) store (omega (arith, used_split b)) ∙ table-long b
+rows_long b store long = length-take-le (table_length (shape_of b)) store (omega (arith, used_split b)) ∙ table_long b
 
-pub taken-long : (b store : List ℕ) {s : Shape} → s ≡ shape_of b → used b ≤ length store → s.concepts * s.width ≡ length (take (s.concepts * s.width) store)
-taken-long b store e long = shape_table b e ∙ sym (rows_long b store long) ∙ ap (λ (xs : List ℕ). length xs) (sym (rows_taken b store e))
+pub taken_long : (b store : List ℕ) {s : Shape} → s ≡ shape_of b → used b ≤ length store → s.concepts * s.width ≡ length (take (s.concepts * s.width) store)
+taken_long b store e long = shape_table b e ∙ sym (rows_long b store long) ∙ ap (λ (xs : List ℕ). length xs) (sym (rows_taken b store e))
 
 -- ---- what a bit of a row says
 
@@ -78,49 +78,49 @@ unfolding held shape_of width
 held-bit b store c g d lc lg ld =
     let r = row_of (shape_of b) c g in
     marks-bit (shape_of b) (set_rows b store) c g d lc lg ld
-    ∙ bit-set-rows b store (place (width b) r d) (place-within (width b) r (concepts b + concepts b * roles b) d (row_of_below (shape_of b) c g lc lg) ld)
+    ∙ bit_set_rows b store (place (width b) r d) (place-within (width b) r (concepts b + concepts b * roles b) d (row_of_below (shape_of b) c g lc lg) ld)
     ∙ ap (bit store) (block_place (concepts b) (width b) r d)
 
 -- The rows by their offsets.
-row-bit : (b store : List ℕ) (r d : ℕ) → d < 8 * width b → bit (row_at b store (r * width b)) d ≡ bit store (place (width b) r d)
+row_bit_lem : (b store : List ℕ) (r d : ℕ) → d < 8 * width b → bit (row_at b store (r * width b)) d ≡ bit store (place (width b) r d)
 unfolding row_at place
-row-bit b store r d l = bit-part store (r * width b) (width b) d l
+row_bit_lem b store r d l = bit_part store (r * width b) (width b) d l
 
 pub axiom_row_bit : (b store : List ℕ) (c d : ℕ) → c < concepts b → d < 8 * width b → bit (row_at b store (axiom_row_at b c)) d ≡ in_force b store c d
 unfolding axiom_row_at
-axiom_row_bit b store c d lc ld = row-bit b store c d ld ∙ sym (in_force_bit b store c d lc ld)
+axiom_row_bit b store c d lc ld = row_bit_lem b store c d ld ∙ sym (in_force_bit b store c d lc ld)
 
-pub pair-row-bit : (b store : List ℕ) (c d : ℕ) → c < concepts b → d < 8 * width b → bit (row_at b store (pair_row_at b c)) d ≡ held b store (pair c d)
+pub pair_row_bit : (b store : List ℕ) (c d : ℕ) → c < concepts b → d < 8 * width b → bit (row_at b store (pair_row_at b c)) d ≡ held b store (pair c d)
 unfolding pair_row_at row_of
-pair-row-bit b store c d lc ld = row-bit b store (concepts b + c) d ld ∙ sym (held-bit b store c 0 d lc (omega arith) ld)
+pair_row_bit b store c d lc ld = row_bit_lem b store (concepts b + c) d ld ∙ sym (held-bit b store c 0 d lc (omega arith) ld)
 
-pub link-row-bit : (b store : List ℕ) (c r d : ℕ) → c < concepts b → r < roles b → d < 8 * width b → bit (row_at b store (link_row_at b c r)) d ≡ held b store (link c r d)
+pub link_row_bit : (b store : List ℕ) (c r d : ℕ) → c < concepts b → r < roles b → d < 8 * width b → bit (row_at b store (link_row_at b c r)) d ≡ held b store (link c r d)
 unfolding link_row_at row_of shape_of
-link-row-bit b store c r d lc lr ld =
-    row-bit b store (concepts b + concepts b + (c * roles b + r)) d ld
+link_row_bit b store c r d lc lr ld =
+    row_bit_lem b store (concepts b + concepts b + (c * roles b + r)) d ld
     ∙ ap (λ x. bit store (place (width b) x d)) (add_assoc (concepts b) (concepts b) (c * roles b + r))
     ∙ sym (held-bit b store c (suc r) d lc lr ld)
 
 -- ---- spare bits
 
-pub spare-clear : (b store : List ℕ) → spare_clear b store ≡ true → (r d : ℕ) → r < row_count b → concepts b ≤ d → d < 8 * width b → bit store (place (width b) r d) ≡ false
+pub spare_clear : (b store : List ℕ) → spare_clear b store ≡ true → (r d : ℕ) → r < row_count b → concepts b ≤ d → d < 8 * width b → bit store (place (width b) r d) ≡ false
 unfolding spare_clear set_from
-spare-clear b store clear r d lr low high =
+spare_clear b store clear r d lr low high =
     let row = none_below (set_from (width b) (concepts b) store) (row_count b) r (not-true _ clear) lr in
     let k = d - concepts b in
     ap (λ j. bit store (place (width b) r j)) (let z : d ≡ concepts b + k = omega arith in z)
     ∙ none_below (λ k. bit store (place (width b) r (concepts b + k))) (8 * width b - concepts b) k row (omega arith)
 
-pub clear-spare : (b store : List ℕ) → ((r d : ℕ) → r < row_count b → concepts b ≤ d → d < 8 * width b → bit store (place (width b) r d) ≡ false) → spare_clear b store ≡ true
+pub clear_spare : (b store : List ℕ) → ((r d : ℕ) → r < row_count b → concepts b ≤ d → d < 8 * width b → bit store (place (width b) r d) ≡ false) → spare_clear b store ≡ true
 unfolding spare_clear set_from
-clear-spare b store clear =
+clear_spare b store clear =
     ap not
-    (some-none (set_from (width b) (concepts b) store) (row_count b)
-    (λ r lr. some-none (λ k. bit store (place (width b) r (concepts b + k))) (8 * width b - concepts b) (λ k lk. clear r (concepts b + k) lr (omega arith) (omega arith))))
+    (some_none (set_from (width b) (concepts b) store) (row_count b)
+    (λ r lr. some_none (λ k. bit store (place (width b) r (concepts b + k))) (8 * width b - concepts b) (λ k lk. clear r (concepts b + k) lr (omega arith) (omega arith))))
 
 -- Where n is a multiple of 8 there are none.
 pub no_spare : (b store : List ℕ) → concepts b % 8 ≡ 0 → spare_clear b store ≡ true
-no_spare b store whole = clear-spare b store (λ r d lr low high. absurd (let z : ⊥ = omega (arith, width_fits b) in z))
+no_spare b store whole = clear_spare b store (λ r d lr low high. absurd (let z : ⊥ = omega (arith, width_fits b) in z))
 
 -- ---- the rows of the used part
 
@@ -159,13 +159,13 @@ in_force_range b store clear c d e =
           absurd
           (not-both e
           (in_force_bit b store c d m.concept m.bit_below
-          ∙ spare-clear b store clear c d (omega (arith, m.concept, rows_split b)) (omega arith) m.bit_below))
+          ∙ spare_clear b store clear c d (omega (arith, m.concept, rows_split b)) (omega arith) m.bit_below))
     ]
 
 -- And so are the pairs and links held.
-pub held-bounded : (b store : List ℕ) → spare_clear b store ≡ true → (e : Expression) → held b store e ≡ true → Bounded b e
+pub held_bounded : (b store : List ℕ) → spare_clear b store ≡ true → (e : Expression) → held b store e ≡ true → Bounded b e
 unfolding held shape_of width
-held-bounded b store clear (fact c g d) e =
+held_bounded b store clear (fact c g d) e =
     let m = marks_elim (shape_of b) (set_rows b store) c g d e in
     let row = row_of_below (shape_of b) c g m.concept m.group in
     elim (dec_lt d (concepts b)) [
@@ -174,5 +174,5 @@ held-bounded b store clear (fact c g d) e =
           absurd
           (not-both e
           (held-bit b store c g d m.concept m.group m.bit_below
-          ∙ spare-clear b store clear (concepts b + row_of (shape_of b) c g) d (omega (arith, row, rows_split b)) (omega arith) m.bit_below))
+          ∙ spare_clear b store clear (concepts b + row_of (shape_of b) c g) d (omega (arith, row, rows_split b)) (omega arith) m.bit_below))
     ]

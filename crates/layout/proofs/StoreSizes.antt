@@ -10,9 +10,9 @@ use Rattle.layout.specs.Layout.{shape_of, table_length, block_length}
 use Rattle.layout.specs.Parts.{width, used, work_used, row_count}
 
 -- What the shape of a catalogue's blocks has, in the store's words.
-pub table-long : (b : List ℕ) → table_length (shape_of b) ≡ concepts b * width b
+pub table_long : (b : List ℕ) → table_length (shape_of b) ≡ concepts b * width b
 unfolding table_length shape_of width
-table-long b = refl
+table_long b = refl
 
 pub block_long : (b : List ℕ) → block_length (shape_of b) ≡ (concepts b + concepts b * roles b) * width b
 unfolding block_length shape_of width
@@ -24,7 +24,7 @@ unfolding used
 used_split b =
     omega (
       arith,
-      table-long b,
+      table_long b,
       block_long b,
       mul-add (concepts b * width b) (roles b) 2,
       add-mul (concepts b) (concepts b * roles b) (width b),
@@ -42,9 +42,9 @@ work_is_block b =
       mul_right_comm (concepts b) (roles b) (width b),
     )
 
-pub used-rows : (b : List ℕ) → used b ≡ row_count b * width b
+pub used_rows : (b : List ℕ) → used b ≡ row_count b * width b
 unfolding used row_count
-used-rows b = mul_right_comm (concepts b) (width b) (roles b + 2)
+used_rows b = mul_right_comm (concepts b) (width b) (roles b + 2)
 
 pub rows_split : (b : List ℕ) → row_count b ≡ concepts b + (concepts b + concepts b * roles b)
 unfolding row_count
@@ -61,18 +61,18 @@ module _ {b : List ℕ} (wf : WellFormed b) where
   unfolding width
   some-width = omega (arith, wf.some_concept)
 
-  pub table-limit : concepts b * width b ≤ 32768
+  pub table_limit : concepts b * width b ≤ 32768
   unfolding width
-  table-limit = mul-le-mul {n₂ = 512} {m₂ = 64} wf.concepts-limit (omega (arith, wf.concepts-limit))
+  table_limit = mul-le-mul {n₂ = 512} {m₂ = 64} wf.concepts_limit (omega (arith, wf.concepts_limit))
 
-  pub rows-limit : row_count b ≤ 9216
+  pub rows_limit : row_count b ≤ 9216
   unfolding row_count
-  rows-limit = mul-le-mul {n₂ = 512} {m₂ = 18} wf.concepts-limit (omega (arith, wf.roles-limit))
+  rows_limit = mul-le-mul {n₂ = 512} {m₂ = 18} wf.concepts_limit (omega (arith, wf.roles_limit))
 
-  pub used-limit : used b ≤ 589824
+  pub used_limit : used b ≤ 589824
   unfolding used
-  used-limit = mul-le-mul {n₂ = 32768} {m₂ = 18} table-limit (omega (arith, wf.roles-limit))
+  used_limit = mul-le-mul {n₂ = 32768} {m₂ = 18} table_limit (omega (arith, wf.roles_limit))
 
-  pub work-limit : work_used b ≤ 557056
+  pub work_limit : work_used b ≤ 557056
   unfolding work_used
-  work-limit = mul-le-mul {n₂ = 32768} {m₂ = 17} table-limit (omega (arith, wf.roles-limit))
+  work_limit = mul-le-mul {n₂ = 32768} {m₂ = 17} table_limit (omega (arith, wf.roles_limit))

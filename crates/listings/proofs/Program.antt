@@ -24,12 +24,12 @@ use Rattle.rules.specs.Counts.{Size, is_pair, Pairs, Links}
 use Rattle.rules.specs.Presentation.{in_closure}
 use Rattle.rules.proofs.Axioms.{catalogue_in_range}
 use Rattle.rules.proofs.Changes.{closure_decided}
-use Rattle.rules.proofs.Counts.{pairs_decide, links_decide, counted-by}
+use Rattle.rules.proofs.Counts.{pairs_decide, links_decide, counted_by}
 use Rattle.layout.specs.Parts.{Sized, held}
 use Rattle.classification.specs.declared.Classified.{Classified}
 use Rattle.classification.specs.declared.Classified.TheVariants.{Done, Refused}
 use Rattle.classification.specs.Classified.{classify_checks, outcome_of, pairs_of, links_of, Classifies}
-use Rattle.classification.proofs.Checks.{accepted-fits}
+use Rattle.classification.proofs.Checks.{accepted_fits}
 use Rattle.classification.proofs.Outcomes.{answer_outcome}
 use Rattle.text.specs.Text.{refusal}
 use Rattle.text.specs.Lines.{listing}
@@ -50,27 +50,27 @@ unfolding program_text unless_refused listing_of
 program_text_listed input test pairs links e exact p l =
     let F = catalogue_axioms input in
     let S = Closure input F in
-    let wf = (accepted-fits input 65536 65536 e).well_formed in
+    let wf = (accepted_fits input 65536 65536 e).well_formed in
     let same : in_closure input F ≡ test = fun_ext (decides_agree (in_closure input F) test S (closure_decided input F wf (catalogue_in_range input wf)) exact) in
     ap (λ (o : Outcome). unless_refused o (listing_of input (in_closure input F))) e
     ∙ ap (listing_of input) same
     ∙ ap₂ (listing input test)
-    (counted-by input (Pairs S) pairs (λ x. test x && is_pair x) p (pairs_decide test S exact))
-    (counted-by input (Links S) links (λ x. test x && not (is_pair x)) l (links_decide test S exact))
+    (counted_by input (Pairs S) pairs (λ x. test x && is_pair x) p (pairs_decide test S exact))
+    (counted_by input (Links S) links (λ x. test x && not (is_pair x)) l (links_decide test S exact))
 
 -- ---- By what classify answers, and the store that it leaves.
 
-module _ (input store work : List ℕ) (answer : Classified) (store' work' : List ℕ) (store_long : length store ≡ 65536) (work-long : length work ≡ 65536) (c : Classifies input store work answer store' work') where
+module _ (input store work : List ℕ) (answer : Classified) (store' work' : List ℕ) (store_long : length store ≡ 65536) (work_long : length work ≡ 65536) (c : Classifies input store work answer store' work') where
   outcome : outcome_of answer ≡ classify_checks input 65536 65536
-  outcome = answer_outcome input store work answer store' work' c ∙ ap₂ (classify_checks input) store_long work-long
+  outcome = answer_outcome input store work answer store' work' c ∙ ap₂ (classify_checks input) store_long work_long
 
-  pub refused-text : (number at : ℕ) → answer ≡ Refused number at → program_text input ≡ refusal number
-  refused-text number at e = program_text_refused input number at (sym outcome ∙ ap outcome_of e)
+  pub refused_text : (number at : ℕ) → answer ≡ Refused number at → program_text input ≡ refusal number
+  refused_text number at e = program_text_refused input number at (sym outcome ∙ ap outcome_of e)
 
   -- What is accepted fits any buffer of 65,536 bytes.
   pub done_fits : (pairs links : ℕ) → answer ≡ Done pairs links → (buffer : List ℕ) → length buffer ≡ 65536 → Sized input buffer
   done_fits pairs links e buffer long =
-      let fits = accepted-fits input 65536 65536 (sym outcome ∙ ap outcome_of e) in
+      let fits = accepted_fits input 65536 65536 (sym outcome ∙ ap outcome_of e) in
       record { well_formed = fits.well_formed; long = omega (arith, fits.store_long) }
 
   pub done_text : (pairs links : ℕ) → answer ≡ Done pairs links → program_text input ≡ listing input (held input store') pairs links
@@ -78,8 +78,8 @@ module _ (input store work : List ℕ) (answer : Classified) (store' work' : Lis
       let S = Closure input (catalogue_axioms input) in
       let a = c.accepts (sym (answer_outcome input store work answer store' work' c) ∙ ap outcome_of e) in
       program_text_listed input (held input store') pairs links (sym outcome ∙ ap outcome_of e) a.fresh.set
-      (subst (Size input (Pairs S)) (ap pairs_of e) a.pairs-counted)
-      (subst (Size input (Links S)) (ap links_of e) a.links-counted)
+      (subst (Size input (Pairs S)) (ap pairs_of e) a.pairs_counted)
+      (subst (Size input (Links S)) (ap links_of e) a.links_counted)
 
 -- ---- By the first 65,536 bytes.
 

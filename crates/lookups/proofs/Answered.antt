@@ -15,25 +15,25 @@ use Rattle.lookups.specs.declared.kinds.Listed.TheVariants as lists
 
 -- ---- lookup
 
-pub looked-up : (b : List ℕ) (c d : ℕ) (store : List ℕ) {t : Bool} → read_checks b (c ∷ d ∷ []) store ≡ accepted → says b store c d ≡ t → looked_up b c d store ≡ looked accepted t
+pub looked_up_lem : (b : List ℕ) (c d : ℕ) (store : List ℕ) {t : Bool} → read_checks b (c ∷ d ∷ []) store ≡ accepted → says b store c d ≡ t → looked_up b c d store ≡ looked accepted t
 unfolding looked_up
-looked-up b c d store e h = ap₂ looked e h
+looked_up_lem b c d store e h = ap₂ looked e h
 
-pub looked-refused : (b : List ℕ) (c d : ℕ) (store : List ℕ) {number at : ℕ} → read_checks b (c ∷ d ∷ []) store ≡ refused number at → looked_up b c d store ≡ looks.Refused number at
+pub looked_refused : (b : List ℕ) (c d : ℕ) (store : List ℕ) {number at : ℕ} → read_checks b (c ∷ d ∷ []) store ≡ refused number at → looked_up b c d store ≡ looks.Refused number at
 unfolding looked_up
-looked-refused b c d store e = ap (λ o. looked o (says b store c d)) e
+looked_refused b c d store e = ap (λ o. looked o (says b store c d)) e
 
 -- ---- listing
 
-pub lists-accepted : (b : List ℕ) (d : ℕ) (store list : List ℕ) (count : ℕ) (after : List ℕ) → list_checks b (d ∷ []) store (length list) ≡ accepted → Filled (kinds_under b d store) list count after → Lists b d store list (lists.Count count) after
-lists-accepted b d store list count after e f =
+pub lists_accepted : (b : List ℕ) (d : ℕ) (store list : List ℕ) (count : ℕ) (after : List ℕ) → list_checks b (d ∷ []) store (length list) ≡ accepted → Filled (kinds_under b d store) list count after → Lists b d store list (lists.Count count) after
+lists_accepted b d store list count after e f =
     record {
       answer = ap lists.Count f.counted ∙ sym (ap (λ o. listed o (kinds_under b d store)) e);
       entries = f.entries ∙ sym (ap (λ o. list_after o (kinds_under b d store) list) e);
     }
 
-pub lists-refused : (b : List ℕ) (d : ℕ) (store list : List ℕ) (number at : ℕ) → list_checks b (d ∷ []) store (length list) ≡ refused number at → Lists b d store list (lists.Refused number at) list
-lists-refused b d store list number at e =
+pub lists_refused : (b : List ℕ) (d : ℕ) (store list : List ℕ) (number at : ℕ) → list_checks b (d ∷ []) store (length list) ≡ refused number at → Lists b d store list (lists.Refused number at) list
+lists_refused b d store list number at e =
     record {
       answer = sym (ap (λ o. listed o (kinds_under b d store)) e);
       entries = sym (ap (λ o. list_after o (kinds_under b d store) list) e);

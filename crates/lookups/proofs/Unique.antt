@@ -13,8 +13,8 @@ use Rattle.lookups.specs.declared.kinds.Listed.TheVariants.{Refused}
 pub lists_unique : (b : List ℕ) (d : ℕ) (store list : List ℕ) (r r' : Listed) (after after' : List ℕ) → Lists b d store list r after → Lists b d store list r' after' → (r ≡ r') × (after ≡ after')
 lists_unique b d store list r r' after after' p q = (p.answer ∙ sym q.answer, p.entries ∙ sym q.entries)
 
-pub refused-keeps : (b : List ℕ) (d : ℕ) (store list : List ℕ) (r : Listed) (after : List ℕ) (number at : ℕ) → Lists b d store list r after → r ≡ Refused number at → after ≡ list
-refused-keeps b d store list r after number at p e = go (list_checks b (d ∷ []) store (length list)) (sym e ∙ p.answer) p.entries
+pub refused_keeps : (b : List ℕ) (d : ℕ) (store list : List ℕ) (r : Listed) (after : List ℕ) (number at : ℕ) → Lists b d store list r after → r ≡ Refused number at → after ≡ list
+refused_keeps b d store list r after number at p e = go (list_checks b (d ∷ []) store (length list)) (sym e ∙ p.answer) p.entries
   where
     go : (o : Outcome) → Refused number at ≡ listed o (kinds_under b d store) → after ≡ list_after o (kinds_under b d store) list → after ≡ list
     go accepted f a = let z : ◌≡◌ {A = ℕ} 0 1 = cc in absurd (let n : ⊥ = omega arith in n)

@@ -11,11 +11,11 @@ use Rattle.catalogue.specs.Checks.{checked}
 use Rattle.catalogue.proofs.Accepted.{accepted_well_formed}
 use Rattle.rules.specs.Axioms.{Axioms, InRange}
 use Rattle.rules.specs.Occurrence.{Occurs, occurs}
-use Rattle.rules.proofs.Occurrence.{occurs-exact}
+use Rattle.rules.proofs.Occurrence.{occurs_exact}
 use Rattle.layout.specs.Parts.{in_force}
 use Rattle.store.specs.Fresh.{Fresh}
 use Rattle.store.specs.Written.{axiom_count}
-use Rattle.store.proofs.Rising.{rising-lists}
+use Rattle.store.proofs.Rising.{rising_lists}
 use Rattle.store.proofs.Checks.{marked-axioms, every_one}
 use Rattle.number_lists.specs.Lists.{with_front}
 use Rattle.number_lists.proofs.Filling.{front_entry}
@@ -24,9 +24,9 @@ use Rattle.lookups.specs.Listings.{atomic_under, kinds_under, listed, list_after
 use Rattle.meaning.specs.Meaning.{ListingFinds}
 use Rattle.lookups.specs.declared.kinds.Listed.{Listed}
 use Rattle.lookups.specs.declared.kinds.Listed.TheVariants.{Count, Refused}
-use Rattle.read_checks.proofs.Acceptance.{list-named}
-use Rattle.meaning.proofs.DemandListing.{listing-means, listed-exact}
-use Rattle.lookups.proofs.Unique.{refused-keeps}
+use Rattle.read_checks.proofs.Acceptance.{list_named}
+use Rattle.meaning.proofs.DemandListing.{listing_means, listed_exact}
+use Rattle.lookups.proofs.Unique.{refused_keeps}
 
 -- ---- a listing from a fresh store
 
@@ -38,9 +38,9 @@ module _ (b : List ℕ) (F : Axioms) (store : List ℕ) (catalogue : checked b �
     names = kinds_under b d store
 
     -- Counted, it was accepted.
-    counted-accepted : (k : ℕ) → r ≡ Count k → (list_checks b (d ∷ []) store (length list) ≡ accepted) × (k ≡ length names)
+    counted_accepted : (k : ℕ) → r ≡ Count k → (list_checks b (d ∷ []) store (length list) ≡ accepted) × (k ≡ length names)
     unfolding names
-    counted-accepted k e = go (list_checks b (d ∷ []) store (length list)) refl (sym e ∙ f.answer)
+    counted_accepted k e = go (list_checks b (d ∷ []) store (length list)) refl (sym e ∙ f.answer)
       where
         go : (o : Outcome) → list_checks b (d ∷ []) store (length list) ≡ o → Count k ≡ listed (list_checks b (d ∷ []) store (length list)) (kinds_under b d store)
             → (list_checks b (d ∷ []) store (length list) ≡ accepted) × (k ≡ length (kinds_under b d store))
@@ -52,13 +52,13 @@ module _ (b : List ℕ) (F : Axioms) (store : List ℕ) (catalogue : checked b �
 
     after_is : (k : ℕ) → r ≡ Count k → after ≡ with_front names list
     unfolding names
-    after_is k e = f.entries ∙ ap (λ (o : Outcome). list_after o (kinds_under b d store) list) (counted-accepted k e).0
+    after_is k e = f.entries ∙ ap (λ (o : Outcome). list_after o (kinds_under b d store) list) (counted_accepted k e).0
 
     named-occurs : (k : ℕ) → r ≡ Count k → Occurs b F d
     named-occurs k e =
-        let m = (list-named b (d ∷ []) store (length list) (counted-accepted k e).0).0 in
+        let m = (list_named b (d ∷ []) store (length list) (counted_accepted k e).0).0 in
         let own : occurs b F d ≡ occurs b (in_force b store) d = ap (λ (G : Axioms). occurs b G d) (sym (marked-axioms b F store fresh)) in
-        (occurs-exact b F (accepted_well_formed catalogue) range d).0 (own ∙ sym (every_one (occurs b (in_force b store)) d) ∙ m.occur)
+        (occurs_exact b F (accepted_well_formed catalogue) range d).0 (own ∙ sym (every_one (occurs b (in_force b store)) d) ∙ m.occur)
 
     entry_is : (k : ℕ) → r ≡ Count k → (i : ℕ) → i < length names → word after (2 * i) ≡ get_or names i 0
     entry_is k e i l = ap (λ (xs : List ℕ). word xs (2 * i)) (after_is k e) ∙ front_entry names list i l
@@ -68,14 +68,14 @@ module _ (b : List ℕ) (F : Axioms) (store : List ℕ) (catalogue : checked b �
     unfolding names kinds_under
     listing_finds =
         record {
-          means = listing-means b F store catalogue range few fresh d list r after f;
-          rises = (rising-lists (atomic_under b store d) (concepts b)).rises;
-          front = λ k e. ((counted-accepted k e).1, after_is k e);
+          means = listing_means b F store catalogue range few fresh d list r after f;
+          rises = (rising_lists (atomic_under b store d) (concepts b)).rises;
+          front = λ k e. ((counted_accepted k e).1, after_is k e);
           entries = λ k e c.
-              let exact = listed-exact b F store catalogue range few fresh d (named-occurs k e) c in
-              let long = (counted-accepted k e).1 in (
+              let exact = listed_exact b F store catalogue range few fresh d (named-occurs k e) c in
+              let long = (counted_accepted k e).1 in (
                 λ (i, l, h). exact.0 (i, subst (λ (n : ℕ). i < n) long l, sym (entry_is k e i (subst (λ (n : ℕ). i < n) long l)) ∙ h),
                 λ n. let (i, l, h) = exact.1 n in (i, subst (λ (n : ℕ). i < n) (sym long) l, entry_is k e i l ∙ h),
               );
-          keeps = λ number at e. refused-keeps b d store list r after number at f e;
+          keeps = λ number at e. refused_keeps b d store list r after number at f e;
         }

@@ -22,12 +22,12 @@ use Rattle.rules.specs.Axioms.{Axioms, InRange}
 use Rattle.rules.specs.Occurrence.{Occurs, occurs}
 use Rattle.rules.specs.Rules.{pair}
 use Rattle.rules.proofs.Bounds.{closure_named}
-use Rattle.rules.proofs.Occurrence.{occurs-exact, occurs-below}
+use Rattle.rules.proofs.Occurrence.{occurs_exact, occurs_below}
 use Rattle.layout.specs.Parts.{width, pair_row_at, row_at, held}
 use Rattle.store.specs.Fresh.{Fresh}
 use Rattle.store.specs.Written.{axiom_count}
 use Rattle.layout.proofs.StoreSizes.{width_fits}
-use Rattle.layout.proofs.StoreRows.{pair-row-bit}
+use Rattle.layout.proofs.StoreRows.{pair_row_bit}
 use Rattle.store.specs.Checks.{every, ask_numbers}
 use Rattle.read_checks.specs.Checks.{ask_occurs, read_checks}
 use Rattle.row_parts.specs.Rows.{row_answer, HandsOut}
@@ -35,20 +35,20 @@ use Rattle.meaning.specs.Meaning.{RowMeans}
 use Rattle.row_parts.specs.declared.Handed.{Handed}
 use Rattle.row_parts.specs.declared.Handed.TheVariants.{Row, Refused}
 use Rattle.store.proofs.Checks.{every_one}
-use Rattle.store.proofs.Says.{says-pair}
-use Rattle.row_parts.proofs.Answered.{row-accepted, row-refused}
+use Rattle.store.proofs.Says.{says_pair}
+use Rattle.row_parts.proofs.Answered.{row_accepted, row_refused}
 use Rattle.meaning.proofs.DemandLookup.{read_asks, meant}
 
 -- ---- two answers are not one
 
-pub row-not-refused : {r : Handed} {offset size number at : ℕ} → r ≡ Row offset size → r ≡ Refused number at → ⊥
-row-not-refused e f = let z : ◌≡◌ {A = ℕ} 0 1 = cc in omega arith
+pub row_not_refused : {r : Handed} {offset size number at : ℕ} → r ≡ Row offset size → r ≡ Refused number at → ⊥
+row_not_refused e f = let z : ◌≡◌ {A = ℕ} 0 1 = cc in omega arith
 
 pub one_number : {r : Handed} → r ≡ Refused 19 0 → r ≡ Refused 15 0 → ⊥
 one_number e f = let z : ◌≡◌ {A = ℕ} 19 15 = cc in omega arith
 
-empty-clear : {part : List ℕ} → part ≡ [] → (d : ℕ) → bit part d ≡ false
-empty-clear {part} e d = bit_past part d (omega (arith, ap (λ (xs : List ℕ). length xs) e))
+empty_clear : {part : List ℕ} → part ≡ [] → (d : ℕ) → bit part d ≡ false
+empty_clear {part} e d = bit_past part d (omega (arith, ap (λ (xs : List ℕ). length xs) e))
 
 -- ---- one concept named
 
@@ -58,14 +58,14 @@ pub data NamedOne (b : List ℕ) (F : ℕ → ℕ → Bool) (c : ℕ) (o : Outco
   missing : o ≡ refused 19 0 → c < concepts b → ¬ (Occurs b F c) → NamedOne b F c o
   outside : o ≡ refused 15 0 → ¬ (c < concepts b) → NamedOne b F c o
 
-pub one-named : (b : List ℕ) (F : Axioms) (store : List ℕ) → checked b ≡ accepted → InRange b F → axiom_count b F ≤ 4096 → Fresh b F store
+pub one_named : (b : List ℕ) (F : Axioms) (store : List ℕ) → checked b ≡ accepted → InRange b F → axiom_count b F ≤ 4096 → Fresh b F store
     → (c : ℕ) → NamedOne b F c (read_checks b (c ∷ []) store)
 unfolding ask_numbers ask_occurs
-one-named b F store catalogue range few fresh c =
+one_named b F store catalogue range few fresh c =
     let asks = read_asks b F store catalogue range few fresh (c ∷ []) in
     let number : every (λ x. ltb x (concepts b)) (c ∷ []) ≡ ltb c (concepts b) = every_one (λ x. ltb x (concepts b)) c in
     let mark : every (occurs b F) (c ∷ []) ≡ occurs b F c = every_one (occurs b F) c in
-    let exact = occurs-exact b F (accepted_well_formed catalogue) range c in
+    let exact = occurs_exact b F (accepted_well_formed catalogue) range c in
     by_bool (ltb c (concepts b))
     (λ l.
     by_bool (occurs b F c)
@@ -84,15 +84,15 @@ module _ (b : List ℕ) (F : Axioms) (store : Bor (List ℕ)) (catalogue : check
     wf = accepted_well_formed catalogue
 
     below : (d : ℕ) → Occurs b F d → d < concepts b
-    below d o = occurs-below b F wf range d o
+    below d o = occurs_below b F wf range d o
 
     -- A bit of the part handed out says what the store holds of the concept, and one past it is clear.
     bit_is : read_checks b (c ∷ []) store.now ≡ accepted → c < concepts b → (d : ℕ) → d < 8 * width b → bit part.now d ≡ held b store.now (pair c d)
     unfolding row_at pair_row_at
-    bit_is e l d ld = ap (λ (xs : List ℕ). bit xs d) (h.accepts e).bytes ∙ pair-row-bit b store.now c d l ld
+    bit_is e l d ld = ap (λ (xs : List ℕ). bit xs d) (h.accepts e).bytes ∙ pair_row_bit b store.now c d l ld
 
-    bit-clear : read_checks b (c ∷ []) store.now ≡ accepted → c < concepts b → (d : ℕ) → ¬ (Occurs b F d) → bit part.now d ≡ false
-    bit-clear e l d n =
+    bit_clear : read_checks b (c ∷ []) store.now ≡ accepted → c < concepts b → (d : ℕ) → ¬ (Occurs b F d) → bit part.now d ≡ false
+    bit_clear e l d n =
         elim (dec_lt d (8 * width b)) [
           | yes ld ↦
               bit_is e l d ld
@@ -107,50 +107,50 @@ module _ (b : List ℕ) (F : Axioms) (store : Bor (List ℕ)) (catalogue : check
 
     handed_out : read_checks b (c ∷ []) store.now ≡ accepted → Occurs b F c → RowMeans b F c answer part.now
     handed_out e o =
-        let is : answer ≡ Row (pair_row_at b c) (width b) = a ∙ row-accepted b c store.now e in
+        let is : answer ≡ Row (pair_row_at b c) (width b) = a ∙ row_accepted b c store.now e in
         record {
           hands_out = (λ _. o, λ _. is);
           bits = λ _ d p.
               let m = meant b F store.now catalogue range few fresh c d o p in
-              let i = bit_is e (below c o) d (omega (arith, below d p, width_fits b)) ∙ sym (says-pair b store.now c d) in
+              let i = bit_is e (below c o) d (omega (arith, below d p, width_fits b)) ∙ sym (says_pair b store.now c d) in
               ((λ t. m.0.0 (sym i ∙ t), λ n. i ∙ m.0.1 n), (λ t. m.1.0 (sym i ∙ t), λ n. i ∙ m.1.1 n));
-          others = bit-clear e (below c o);
-          absent = (λ q. absurd (row-not-refused is q), λ (_, n). absurd (n o));
-          outside = (λ q. absurd (row-not-refused is q), λ n. absurd (n (below c o)));
+          others = bit_clear e (below c o);
+          absent = (λ q. absurd (row_not_refused is q), λ (_, n). absurd (n o));
+          outside = (λ q. absurd (row_not_refused is q), λ n. absurd (n (below c o)));
           empty = λ n. absurd (n o);
         }
 
-    refused-absent : read_checks b (c ∷ []) store.now ≡ refused 19 0 → c < concepts b → ¬ (Occurs b F c)
+    refused_absent : read_checks b (c ∷ []) store.now ≡ refused 19 0 → c < concepts b → ¬ (Occurs b F c)
         → RowMeans b F c answer part.now
-    refused-absent e l n =
-        let is : answer ≡ Refused 19 0 = a ∙ row-refused b c store.now e in
+    refused_absent e l n =
+        let is : answer ≡ Refused 19 0 = a ∙ row_refused b c store.now e in
         record {
-          hands_out = (λ q. absurd (row-not-refused q is), λ o. absurd (n o));
+          hands_out = (λ q. absurd (row_not_refused q is), λ o. absurd (n o));
           bits = λ o. absurd (n o);
-          others = λ d _. empty-clear (h.refuses 19 0 e) d;
+          others = λ d _. empty_clear (h.refuses 19 0 e) d;
           absent = (λ _. (l, n), λ _. is);
           outside = (λ q. absurd (one_number is q), λ m. absurd (m l));
           empty = λ _. h.refuses 19 0 e;
         }
 
-    refused-outside : read_checks b (c ∷ []) store.now ≡ refused 15 0 → ¬ (c < concepts b) → RowMeans b F c answer part.now
-    refused-outside e m =
-        let is : answer ≡ Refused 15 0 = a ∙ row-refused b c store.now e in
+    refused_outside : read_checks b (c ∷ []) store.now ≡ refused 15 0 → ¬ (c < concepts b) → RowMeans b F c answer part.now
+    refused_outside e m =
+        let is : answer ≡ Refused 15 0 = a ∙ row_refused b c store.now e in
         let n : ¬ (Occurs b F c) = λ o. m (below c o) in
         record {
-          hands_out = (λ q. absurd (row-not-refused q is), λ o. absurd (n o));
+          hands_out = (λ q. absurd (row_not_refused q is), λ o. absurd (n o));
           bits = λ o. absurd (n o);
-          others = λ d _. empty-clear (h.refuses 15 0 e) d;
+          others = λ d _. empty_clear (h.refuses 15 0 e) d;
           absent = (λ q. absurd (one_number q is), λ (l, _). absurd (m l));
           outside = (λ _. m, λ _. is);
           empty = λ _. h.refuses 15 0 e;
         }
 
     -- Demands 1 and 2 of a row from a fresh store: what its bits mean, and its refusals.
-    pub row-means : RowMeans b F c answer part.now
-    row-means = go (one-named b F store.now catalogue range few fresh c)
+    pub row_means : RowMeans b F c answer part.now
+    row_means = go (one_named b F store.now catalogue range few fresh c)
       where
         go : NamedOne b F c (read_checks b (c ∷ []) store.now) → RowMeans b F c answer part.now
         go (occurring e o) = handed_out e o
-        go (missing e l n) = refused-absent e l n
-        go (outside e m) = refused-outside e m
+        go (missing e l n) = refused_absent e l n
+        go (outside e m) = refused_outside e m

@@ -24,10 +24,10 @@ pub record AtomicMeans (b : List ℕ) (F : ℕ → ℕ → Bool) (store : List �
   pub no_means : (c d : ℕ) → Atomic b c → Atomic b d → (looked_up b c d store ≡ No) ↔ Refuted b F c d
   pub answers : (c d : ℕ) → Atomic b c → Atomic b d → (looked_up b c d store ≡ Yes) ⊎ (looked_up b c d store ≡ No)
   -- A listing under one, with a list that is long enough, has the kind itself among its entries.
-  pub lists-itself : (d : ℕ) → Atomic b d → (list : List ℕ) (r : Listed) (after : List ℕ) → Lists b d store list r after → 2 * concepts b ≤ length list
+  pub lists_itself : (d : ℕ) → Atomic b d → (list : List ℕ) (r : Listed) (after : List ℕ) → Lists b d store list r after → 2 * concepts b ≤ length list
       → (k : ℕ) × (r ≡ lists.Count k) × (i : ℕ) × (i < k) × (word after (2 * i) ≡ d)
   -- "19 and demand 1's refusal stay for those that don't occur": exactly where a top or a composite doesn't.
   pub lookup_absent : (c d : ℕ) → (looked_up b c d store ≡ Refused 19 0) ↔ ((c < concepts b) × (d < concepts b) × (Absent b F c ⊎ Absent b F d))
-  pub listing-absent : (d : ℕ) (list : List ℕ) (r : Listed) (after : List ℕ) → Lists b d store list r after
+  pub listing_absent : (d : ℕ) (list : List ℕ) (r : Listed) (after : List ℕ) → Lists b d store list r after
       → (r ≡ lists.Refused 19 0) ↔ ((2 * concepts b ≤ length list) × Absent b F d)
-  pub row-absent : (c : ℕ) → (row_answer b c store ≡ hands.Refused 19 0) ↔ Absent b F c
+  pub row_absent : (c : ℕ) → (row_answer b c store ≡ hands.Refused 19 0) ↔ Absent b F c

@@ -15,35 +15,35 @@ use Rattle.rows.proofs.Counting.{count_le}
 use Rattle.catalogue.specs.Words.{word, bytes_of}
 use Rattle.store.specs.Written.{rising, set_word}
 use Rattle.store.proofs.Rising.{rising_pass, rising_fail, rising_skip, length-rising}
-use Rattle.store.proofs.Records.{word-later}
+use Rattle.store.proofs.Records.{word_later}
 use Rattle.number_lists.specs.Lists.{with_front, Filled, Entered}
 
 -- A number written past the first two bytes.
-set-word-next : (u v : ℕ) (l : List ℕ) (i j x : ℕ) → i ≡ suc (suc j) → set_word (u ∷ v ∷ l) i x ≡ u ∷ v ∷ set_word l j x
+set_word_next : (u v : ℕ) (l : List ℕ) (i j x : ℕ) → i ≡ suc (suc j) → set_word (u ∷ v ∷ l) i x ≡ u ∷ v ∷ set_word l j x
 unfolding set_word
-set-word-next u v l i j x e =
+set_word_next u v l i j x e =
     let next : i + 1 ≡ suc (suc (j + 1)) = omega arith in
     ap₂ (λ (p q : ℕ). set (set (u ∷ v ∷ l) p (x % 256)) q (x / 256)) e next
 
 -- A number written after others, in the place of two bytes.
-set-word-after : (names : List ℕ) (u v : ℕ) (rest : List ℕ) (x : ℕ) → set_word (bytes_of names ++ (u ∷ v ∷ rest)) (2 * length names) x ≡ bytes_of (names ++ (x ∷ [])) ++ rest
+set_word_after : (names : List ℕ) (u v : ℕ) (rest : List ℕ) (x : ℕ) → set_word (bytes_of names ++ (u ∷ v ∷ rest)) (2 * length names) x ≡ bytes_of (names ++ (x ∷ [])) ++ rest
 unfolding bytes_of set_word
-set-word-after [] u v rest x = refl
-set-word-after (n ∷ names) u v rest x =
-    set-word-next (n % 256) (n / 256) (bytes_of names ++ (u ∷ v ∷ rest)) (2 * suc (length names)) (2 * length names) x (omega arith)
-    ∙ ap (λ (l : List ℕ). n % 256 ∷ n / 256 ∷ l) (set-word-after names u v rest x)
+set_word_after [] u v rest x = refl
+set_word_after (n ∷ names) u v rest x =
+    set_word_next (n % 256) (n / 256) (bytes_of names ++ (u ∷ v ∷ rest)) (2 * suc (length names)) (2 * length names) x (omega arith)
+    ∙ ap (λ (l : List ℕ). n % 256 ∷ n / 256 ∷ l) (set_word_after names u v rest x)
 
 -- One name more in front.
-front-more : (names list : List ℕ) (x : ℕ) → 2 * length names + 1 < length list → set_word (with_front names list) (2 * length names) x ≡ with_front (names ++ (x ∷ [])) list
+front_more : (names list : List ℕ) (x : ℕ) → 2 * length names + 1 < length list → set_word (with_front names list) (2 * length names) x ≡ with_front (names ++ (x ∷ [])) list
 unfolding with_front
-front-more names list x l =
+front_more names list x l =
     let k = 2 * length names in
     let two : drop k list ≡ get_or list k 0 ∷ get_or list (suc k) 0 ∷ drop (suc (suc k)) list =
     drop-cons list k 0 (omega arith) ∙ ap (λ (r : List ℕ). get_or list k 0 ∷ r) (drop-cons list (suc k) 0 (omega arith))
     in
     let long : suc (suc k) ≡ 2 * length (names ++ (x ∷ [])) = omega (arith, length-append names (x ∷ [])) in
     ap (λ (r : List ℕ). set_word (bytes_of names ++ r) k x) two
-    ∙ set-word-after names (get_or list k 0) (get_or list (suc k) 0) (drop (suc (suc k)) list) x
+    ∙ set_word_after names (get_or list k 0) (get_or list (suc k) 0) (drop (suc (suc k)) list) x
     ∙ ap (λ (j : ℕ). bytes_of (names ++ (x ∷ [])) ++ drop j list) long
 
 -- ---- the loop
@@ -52,11 +52,11 @@ pub filled_none : (test : ℕ → Bool) (list : List ℕ) → Filled (rising tes
 unfolding rising with_front bytes_of
 filled_none test list = record { counted = refl; entries = refl }
 
-pub filled-most : (test : ℕ → Bool) (k : ℕ) {list after : List ℕ} {count : ℕ} → Filled (rising test k) list count after → count ≤ k
-filled-most test k f = omega (arith, f.counted, length-rising test k, count_le test k)
+pub filled_most : (test : ℕ → Bool) (k : ℕ) {list after : List ℕ} {count : ℕ} → Filled (rising test k) list count after → count ≤ k
+filled_most test k f = omega (arith, f.counted, length-rising test k, count_le test k)
 
-pub filled-step : (test : ℕ → Bool) (k : ℕ) (list now after : List ℕ) (count r : ℕ) {on : Bool} → 2 * count + 1 < length list → Filled (rising test k) list count now → on ≡ test k → Entered on k count now r after → Filled (rising test (k + 1)) list r after
-filled-step test k list now after count r room f is e =
+pub filled_step : (test : ℕ → Bool) (k : ℕ) (list now after : List ℕ) (count r : ℕ) {on : Bool} → 2 * count + 1 < length list → Filled (rising test k) list count now → on ≡ test k → Entered on k count now r after → Filled (rising test (k + 1)) list r after
+filled_step test k list now after count r room f is e =
     subst (λ (j : ℕ). Filled (rising test j) list r after) (sym (add-one k))
     (by_bool (test k)
     (λ t.
@@ -66,7 +66,7 @@ filled-step test k list now after count r room f is e =
       counted = counted ∙ ap (λ (n : ℕ). n + 1) f.counted ∙ sym (length-append (rising test k) (k ∷ []));
       entries = written
           ∙ ap₂ (λ (l : List ℕ) (n : ℕ). set_word l (2 * n) k) f.entries f.counted
-          ∙ front-more (rising test k) list k (omega (arith, f.counted));
+          ∙ front_more (rising test k) list k (omega (arith, f.counted));
     }))
     (λ t.
     let (counted, kept) = e.skips (is ∙ t) in
@@ -95,7 +95,7 @@ walked_none row n r list next = walked_on row n 0 r list 0 list (omega arith) (f
 pub walked_more : (row : List ℕ) (n c r : ℕ) (list now after : List ℕ) (count k : ℕ) → 2 * n ≤ length list → c < n → Walked row n list c count now → Entered true c count now k after → NextBelow row n (c + 1) r → Walked row n list r k after
 walked_more row n c r list now after count k room l w e next =
     walked_on row n (c + 1) r list k after (omega arith)
-    (filled-step (bit row) c list now after count k (omega (arith, filled-most (bit row) c w.filled)) w.filled (sym (w.is_set l)) e)
+    (filled_step (bit row) c list now after count k (omega (arith, filled_most (bit row) c w.filled)) w.filled (sym (w.is_set l)) e)
     next
 
 -- At the end all of them are.
@@ -105,17 +105,17 @@ walked_all row n c list count now l w =
 
 -- ---- what the list says afterwards
 
-front-word : (names rest : List ℕ) (i : ℕ) → i < length names → word (bytes_of names ++ rest) (2 * i) ≡ get_or names i 0
+front_word : (names rest : List ℕ) (i : ℕ) → i < length names → word (bytes_of names ++ rest) (2 * i) ≡ get_or names i 0
 unfolding word bytes_of
-front-word [] rest i l = absurd (not-suc-le-zero l)
-front-word (n ∷ names) rest zero l = omega arith
-front-word (n ∷ names) rest (suc i) l =
-    word-later (n % 256) (n / 256) (bytes_of names ++ rest) (2 * suc i) (2 * i) (omega arith) ∙ front-word names rest i (le_of_suc-le-suc l)
+front_word [] rest i l = absurd (not-suc-le-zero l)
+front_word (n ∷ names) rest zero l = omega arith
+front_word (n ∷ names) rest (suc i) l =
+    word_later (n % 256) (n / 256) (bytes_of names ++ rest) (2 * suc i) (2 * i) (omega arith) ∙ front_word names rest i (le_of_suc-le-suc l)
 
 -- Number i of those that stand in front.
 pub front_entry : (names list : List ℕ) (i : ℕ) → i < length names → word (with_front names list) (2 * i) ≡ get_or names i 0
 unfolding with_front
-front_entry names list i l = front-word names (drop (2 * length names) list) i l
+front_entry names list i l = front_word names (drop (2 * length names) list) i l
 
 pub filled_entry : {names list after : List ℕ} {count : ℕ} → Filled names list count after → (i : ℕ) → i < count → word after (2 * i) ≡ get_or names i 0
 filled_entry {names} {list} f i l = ap (λ (xs : List ℕ). word xs (2 * i)) f.entries ∙ front_entry names list i (subst (λ (k : ℕ). i < k) f.counted l)

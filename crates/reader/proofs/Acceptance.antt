@@ -19,10 +19,10 @@ axiom_numbers b = 2 * axioms b
 
 -- They fill the catalogue from the header to its end.
 pub records_end : (b : List ℕ) → checked b ≡ accepted → axioms_at b ≡ 20 + 2 * record_numbers b
-records_end b e = let w : WellFormed b = accepted_well_formed e in omega (arith, w.inclusions-start, w.compositions-start, w.axioms-start)
+records_end b e = let w : WellFormed b = accepted_well_formed e in omega (arith, w.inclusions_start, w.compositions_start, w.axioms_start)
 
-pub records-within : (b : List ℕ) → checked b ≡ accepted → 20 + 2 * record_numbers b ≤ length b
-records-within b e = let w : WellFormed b = accepted_well_formed e in omega (arith, records_end b e, w.whole)
+pub records_within : (b : List ℕ) → checked b ≡ accepted → 20 + 2 * record_numbers b ≤ length b
+records_within b e = let w : WellFormed b = accepted_well_formed e in omega (arith, records_end b e, w.whole)
 
 pub axioms_end : (b : List ℕ) → checked b ≡ accepted → length b ≡ axioms_at b + 2 * axiom_numbers b
 axioms_end b e = let w : WellFormed b = accepted_well_formed e in omega (arith, w.whole)

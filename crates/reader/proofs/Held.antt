@@ -13,8 +13,8 @@ use denote.Slice.{slice_val}
 use Rattle.reader.specs.contracts.Reader as T
 
 -- The lifetime that a signature names, and the one that a local has.
-abbrev pub named-at : Lft → NamedLft
-named-at κ = named_lft 1 0 tt (κ, tt)
+abbrev pub named_at : Lft → NamedLft
+named_at κ = named_lft 1 0 tt (κ, tt)
 
 abbrev pub local_at : Lft → NamedLft
 local_at κ = record { mir = erased; lft = κ }

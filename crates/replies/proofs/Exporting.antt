@@ -11,7 +11,7 @@ module _ {C L : Type 0} {Calls : C → L → Type 0} {reply_of : C → Reply} {l
   pub exported_short : length answer < 4 → Exported Calls reply_of lent answer 65535 lent answer
   exported_short l =
       record {
-        short = λ _. record { returns = refl; lent-kept = refl; answer-kept = refl };
+        short = λ _. record { returns = refl; lent_kept = refl; answer_kept = refl };
         long = λ g. absurd (let y : ⊥ = omega arith in y);
       }
 

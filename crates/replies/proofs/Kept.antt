@@ -6,7 +6,7 @@ use mathlib.Core.Path.{◌≡◌, refl, sym, ◌∙◌}
 use mathlib.Core.List.{List}
 use lib.ListN.{length}
 use Rattle.catalogue.specs.Outcome.{Outcome}
-use Rattle.store.proofs.Work.{work-stays}
+use Rattle.store.proofs.Work.{work_stays}
 use Rattle.classification.specs.declared.Classified.{Classified}
 use Rattle.classification.specs.declared.Classified.TheVariants.{Done}
 use Rattle.classification.specs.Classified.{Classifies}
@@ -15,15 +15,15 @@ use Rattle.change_contract.specs.declared.Changed.{Changed}
 use Rattle.change_contract.specs.declared.Changed.TheVariants.{Done}
 use Rattle.change_contract.specs.Edits.{Lent, lend, Edits}
 use Rattle.change_contract.proofs.Outcomes.{answer_outcome as edit-asked}
-use Rattle.change_contract.proofs.Unique.{same-buffers}
+use Rattle.change_contract.proofs.Unique.{same_buffers}
 use Rattle.lookups.specs.declared.kinds.Listed.{Listed}
 use Rattle.lookups.specs.declared.kinds.Listed.TheVariants.{Count}
 use Rattle.lookups.specs.Listings.{Lists}
-use Rattle.lookups.proofs.Unique.{refused-keeps}
+use Rattle.lookups.proofs.Unique.{refused_keeps}
 use Rattle.writing.specs.declared.Wrote.{Wrote}
 use Rattle.writing.specs.declared.Wrote.TheVariants.{Length}
 use Rattle.writing.specs.Write.{ByOutcome}
-use Rattle.writing.proofs.Outcomes.{refused-keeps as write_keeps}
+use Rattle.writing.proofs.Outcomes.{refused_keeps as write_keeps}
 use Rattle.replies.specs.declared.Reply.{Reply}
 use Rattle.replies.specs.declared.Reply.TheVariants.{Accepted, Refused}
 use Rattle.replies.specs.Answers.{Given, Exported}
@@ -36,11 +36,11 @@ use Rattle.replies.specs.Write.{write_reply, WriteExported}
 never_accepted : {first second third fourth number at : ℕ} → Accepted first second third fourth ≡ Refused number at → ⊥
 never_accepted e = let z : ◌≡◌ {A = ℕ} 0 1 = cc in omega arith
 
-given-kept : {L : Type 0} {lent lent' : L} {answer answer' : List ℕ} {r : ℕ} (reply : Reply) → Given reply answer r answer' → (r ≡ 0 → ⊥)
+given_kept : {L : Type 0} {lent lent' : L} {answer answer' : List ℕ} {r : ℕ} (reply : Reply) → Given reply answer r answer' → (r ≡ 0 → ⊥)
     → ((number at : ℕ) → reply ≡ Refused number at → lent' ≡ lent)
     → (lent' ≡ lent) × (answer' ≡ answer)
-given-kept (Accepted first second third fourth) g n keeps = absurd (n g.returns)
-given-kept (Refused number at) g n keeps = (keeps number at refl, g.writes)
+given_kept (Accepted first second third fourth) g n keeps = absurd (n g.returns)
+given_kept (Refused number at) g n keeps = (keeps number at refl, g.writes)
 
 -- What a refused call keeps, the exported call keeps.
 pub exported_kept : {C L : Type 0} {Calls : C → L → Type 0} {reply_of : C → Reply} {lent lent' : L} {answer answer' : List ℕ} {r : ℕ}
@@ -50,31 +50,31 @@ pub exported_kept : {C L : Type 0} {Calls : C → L → Type 0} {reply_of : C �
     → (lent' ≡ lent) × (answer' ≡ answer)
 exported_kept {reply_of = reply_of} {answer = answer} keeps p n =
     elim (dec_lt (length answer) 4) [
-      | yes l ↦ ((p.short l).lent-kept, (p.short l).answer-kept)
+      | yes l ↦ ((p.short l).lent_kept, (p.short l).answer_kept)
       | no g ↦
           let x = p.long (omega arith) in
-          given-kept (reply_of x.call) x.gives n (λ number at e. keeps x.call number at x.calls e)
+          given_kept (reply_of x.call) x.gives n (λ number at e. keeps x.call number at x.calls e)
     ]
 
 -- ---- check
 
-pub check-kept : (b answer : List ℕ) (r : ℕ) (a : List ℕ) → CheckExported b answer r a → (r ≡ 0 → ⊥) → a ≡ answer
-check-kept b answer r a p n = (exported_kept (λ call number at x e. refl) p n).1
+pub check_kept : (b answer : List ℕ) (r : ℕ) (a : List ℕ) → CheckExported b answer r a → (r ≡ 0 → ⊥) → a ≡ answer
+check_kept b answer r a p n = (exported_kept (λ call number at x e. refl) p n).1
 
 -- ---- classify
 
-classifies-kept : (b store work s w : List ℕ) (call : Classified) (number at : ℕ) → Classifies b store work call s w → classify_reply call ≡ Refused number at
+classifies_kept : (b store work s w : List ℕ) (call : Classified) (number at : ℕ) → Classifies b store work call s w → classify_reply call ≡ Refused number at
     → ◌≡◌ {A = List ℕ × List ℕ} (s, w) (store, work)
-classifies-kept b store work s w (Done pairs links) number at p e = absurd (never_accepted e)
-classifies-kept b store work s w (Classified.Refused n a) number at p e =
+classifies_kept b store work s w (Done pairs links) number at p e = absurd (never_accepted e)
+classifies_kept b store work s w (Classified.Refused n a) number at p e =
     let x = p.refuses n a (sym (answer_outcome b store work (Classified.Refused n a) s w p)) in
-    let stays : w ≡ work = x.work-kept ∙ work-stays _ n work in
+    let stays : w ≡ work = x.work_kept ∙ work_stays _ n work in
     λ i. (x.store_kept i, stays i)
 
-pub classify-kept : (b store work answer : List ℕ) (r : ℕ) (s w a : List ℕ) → ClassifyExported b store work answer r s w a → (r ≡ 0 → ⊥)
+pub classify_kept : (b store work answer : List ℕ) (r : ℕ) (s w a : List ℕ) → ClassifyExported b store work answer r s w a → (r ≡ 0 → ⊥)
     → (s ≡ store) × (w ≡ work) × (a ≡ answer)
-classify-kept b store work answer r s w a p n =
-    let u = exported_kept (classifies-kept b store work s w) p n in
+classify_kept b store work answer r s w a p n =
+    let u = exported_kept (classifies_kept b store work s w) p n in
     (λ i. (u.0 i).0, λ i. (u.0 i).1, u.1)
 
 -- ---- change
@@ -83,28 +83,28 @@ edits_kept : (b withdrawn added : List ℕ) (u v : Lent) (call : Changed) (numbe
 edits_kept b withdrawn added u v (Done removed returned gained touched) number at p e = absurd (never_accepted e)
 edits_kept b withdrawn added u v (Changed.Refused n a) number at p e =
     let x = p.refuses n a (sym (edit-asked b withdrawn added u (Changed.Refused n a) v p)) in
-    same-buffers x.store_kept (x.work-kept ∙ work-stays _ n u.work) x.list-kept
+    same_buffers x.store_kept (x.work_kept ∙ work_stays _ n u.work) x.list_kept
 
-pub change-kept : (b withdrawn added store work list answer : List ℕ) (r : ℕ) (s w t a : List ℕ)
+pub change_kept : (b withdrawn added store work list answer : List ℕ) (r : ℕ) (s w t a : List ℕ)
     → ChangeExported b withdrawn added store work list answer r s w t a → (r ≡ 0 → ⊥)
     → (s ≡ store) × (w ≡ work) × (t ≡ list) × (a ≡ answer)
-change-kept b withdrawn added store work list answer r s w t a p n =
+change_kept b withdrawn added store work list answer r s w t a p n =
     let u = exported_kept (edits_kept b withdrawn added (lend store work list) (lend s w t)) p n in
     (λ i. (u.0 i).store, λ i. (u.0 i).work, λ i. (u.0 i).list, u.1)
 
 -- ---- lookup, list and row
 
-pub lookup-kept : (b : List ℕ) (c d : ℕ) (store answer : List ℕ) (r : ℕ) (a : List ℕ) → LookupExported b c d store answer r a → (r ≡ 0 → ⊥) → a ≡ answer
-lookup-kept b c d store answer r a p n = (exported_kept (λ call number at x e. refl) p n).1
+pub lookup_kept : (b : List ℕ) (c d : ℕ) (store answer : List ℕ) (r : ℕ) (a : List ℕ) → LookupExported b c d store answer r a → (r ≡ 0 → ⊥) → a ≡ answer
+lookup_kept b c d store answer r a p n = (exported_kept (λ call number at x e. refl) p n).1
 
-lists-kept : (b : List ℕ) (d : ℕ) (store list l : List ℕ) (call : Listed) (number at : ℕ)
+lists_kept : (b : List ℕ) (d : ℕ) (store list l : List ℕ) (call : Listed) (number at : ℕ)
     → Lists b d store list call l → list_reply call ≡ Refused number at → l ≡ list
-lists-kept b d store list l (Count count) number at p e = absurd (never_accepted e)
-lists-kept b d store list l (Listed.Refused n a) number at p e = refused-keeps b d store list _ l n a p refl
+lists_kept b d store list l (Count count) number at p e = absurd (never_accepted e)
+lists_kept b d store list l (Listed.Refused n a) number at p e = refused_keeps b d store list _ l n a p refl
 
-pub list-kept : (b : List ℕ) (d : ℕ) (store list answer : List ℕ) (r : ℕ) (l a : List ℕ)
+pub list_kept : (b : List ℕ) (d : ℕ) (store list answer : List ℕ) (r : ℕ) (l a : List ℕ)
     → ListExported b d store list answer r l a → (r ≡ 0 → ⊥) → (l ≡ list) × (a ≡ answer)
-list-kept b d store list answer r l a p n = exported_kept (lists-kept b d store list l) p n
+list_kept b d store list answer r l a p n = exported_kept (lists_kept b d store list l) p n
 
 pub row_kept : (b : List ℕ) (c : ℕ) (store answer : List ℕ) (r : ℕ) (a : List ℕ) → RowExported b c store answer r a → (r ≡ 0 → ⊥) → a ≡ answer
 row_kept b c store answer r a p n = (exported_kept (λ call number at x e. refl) p n).1

@@ -31,7 +31,7 @@ exported_unique {reply_of = reply_of} {answer = answer} unique p q =
       | yes l ↦
           let x = p.short l in
           let y = q.short l in
-          (x.returns ∙ sym y.returns, x.lent-kept ∙ sym y.lent-kept, x.answer-kept ∙ sym y.answer-kept)
+          (x.returns ∙ sym y.returns, x.lent_kept ∙ sym y.lent_kept, x.answer_kept ∙ sym y.answer_kept)
       | no g ↦
           let x = p.long (omega arith) in
           let y = q.long (omega arith) in
@@ -47,9 +47,9 @@ check_unique b answer r r' a a' p q =
     let u = exported_unique (λ call call' x y. (x ∙ sym y, refl)) p q in
     (u.0, u.2)
 
-classifies-one : (b store work : List ℕ) (s s' w w' : List ℕ) (call call' : Classified) → Classifies b store work call s w → Classifies b store work call' s' w'
+classifies_one : (b store work : List ℕ) (s s' w w' : List ℕ) (call call' : Classified) → Classifies b store work call s w → Classifies b store work call' s' w'
     → (call ≡ call') × ◌≡◌ {A = List ℕ × List ℕ} (s, w) (s', w')
-classifies-one b store work s s' w w' call call' x y =
+classifies_one b store work s s' w w' call call' x y =
     let u = classifies_unique b store work call call' s s' w w' x y in
     (u.0, λ i. (u.1 i, u.2 i))
 
@@ -57,7 +57,7 @@ pub classify_unique : (b store work answer : List ℕ) (r r' : ℕ) (s s' w w' a
     → ClassifyExported b store work answer r s w a → ClassifyExported b store work answer r' s' w' a'
     → (r ≡ r') × (s ≡ s') × (w ≡ w') × (a ≡ a')
 classify_unique b store work answer r r' s s' w w' a a' p q =
-    let u = exported_unique (classifies-one b store work s s' w w') p q in
+    let u = exported_unique (classifies_one b store work s s' w w') p q in
     (u.0, λ i. (u.1 i).0, λ i. (u.1 i).1, u.2)
 
 pub change_unique : (b withdrawn added store work list answer : List ℕ) (r r' : ℕ) (s s' w w' t t' a a' : List ℕ)

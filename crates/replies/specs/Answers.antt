@@ -30,8 +30,8 @@ pub record TellsShort (answer : List ℕ) (r : Bool) : Type 0 where
 -- Nothing is changed where the answer is too short.
 pub record TooShort {L : Type 0} (lent : L) (answer : List ℕ) (r : ℕ) (lent' : L) (answer' : List ℕ) : Type 0 where
   pub returns : r ≡ 65535
-  pub lent-kept : lent' ≡ lent
-  pub answer-kept : answer' ≡ answer
+  pub lent_kept : lent' ≡ lent
+  pub answer_kept : answer' ≡ answer
 
 -- Called: some answer of the call, with what it leaves in the buffers lent, and its reply given.
 pub record Called {C L : Type 0} (Calls : C → L → Type 0) (reply_of : C → Reply) (answer : List ℕ) (r : ℕ) (lent' : L) (answer' : List ℕ) : Type 0 where

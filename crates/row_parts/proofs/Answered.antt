@@ -9,34 +9,34 @@ use Rattle.catalogue.specs.Outcome.{Outcome, accepted, refused}
 use Rattle.layout.specs.Parts.{width, pair_row_at}
 use Rattle.layout.proofs.Offsets.{row_in_store}
 use Rattle.read_checks.specs.Checks.{read_checks}
-use Rattle.read_checks.proofs.Acceptance.{read_named, named-one}
+use Rattle.read_checks.proofs.Acceptance.{read_named, named_one}
 use Rattle.row_parts.specs.Rows.{handed, row_answer, Within, Names, HandsOut}
 use Rattle.row_parts.specs.declared.Handed.{Handed}
 use Rattle.row_parts.specs.declared.Handed.TheVariants as hands
 
 -- ---- the answer
 
-pub row-accepted : (b : List ℕ) (c : ℕ) (store : List ℕ) → read_checks b (c ∷ []) store ≡ accepted → row_answer b c store ≡ hands.Row (pair_row_at b c) (width b)
+pub row_accepted : (b : List ℕ) (c : ℕ) (store : List ℕ) → read_checks b (c ∷ []) store ≡ accepted → row_answer b c store ≡ hands.Row (pair_row_at b c) (width b)
 unfolding row_answer
-row-accepted b c store e = ap (λ o. handed o (pair_row_at b c) (width b)) e
+row_accepted b c store e = ap (λ o. handed o (pair_row_at b c) (width b)) e
 
-pub row-refused : (b : List ℕ) (c : ℕ) (store : List ℕ) {number at : ℕ} → read_checks b (c ∷ []) store ≡ refused number at → row_answer b c store ≡ hands.Refused number at
+pub row_refused : (b : List ℕ) (c : ℕ) (store : List ℕ) {number at : ℕ} → read_checks b (c ∷ []) store ≡ refused number at → row_answer b c store ≡ hands.Refused number at
 unfolding row_answer
-row-refused b c store e = ap (λ o. handed o (pair_row_at b c) (width b)) e
+row_refused b c store e = ap (λ o. handed o (pair_row_at b c) (width b)) e
 
-handed-row : (o : Outcome) (p w offset size : ℕ) → hands.Row offset size ≡ handed o p w → (o ≡ accepted) × (offset ≡ p) × (size ≡ w)
-handed-row accepted p w offset size e = (refl, cc, cc)
-handed-row (refused number at) p w offset size e = let z : ◌≡◌ {A = ℕ} 0 1 = cc in absurd (let n : ⊥ = omega arith in n)
+handed_row : (o : Outcome) (p w offset size : ℕ) → hands.Row offset size ≡ handed o p w → (o ≡ accepted) × (offset ≡ p) × (size ≡ w)
+handed_row accepted p w offset size e = (refl, cc, cc)
+handed_row (refused number at) p w offset size e = let z : ◌≡◌ {A = ℕ} 0 1 = cc in absurd (let n : ⊥ = omega arith in n)
 
-pub row-answered : (b : List ℕ) (c : ℕ) (store : List ℕ) (offset size : ℕ) → hands.Row offset size ≡ row_answer b c store → (read_checks b (c ∷ []) store ≡ accepted) × (offset ≡ pair_row_at b c) × (size ≡ width b)
+pub row_answered : (b : List ℕ) (c : ℕ) (store : List ℕ) (offset size : ℕ) → hands.Row offset size ≡ row_answer b c store → (read_checks b (c ∷ []) store ≡ accepted) × (offset ≡ pair_row_at b c) × (size ≡ width b)
 unfolding row_answer
-row-answered b c store offset size e = handed-row (read_checks b (c ∷ []) store) (pair_row_at b c) (width b) offset size e
+row_answered b c store offset size e = handed_row (read_checks b (c ∷ []) store) (pair_row_at b c) (width b) offset size e
 
 -- ---- the part handed out
 
 -- What stands in the store where the answer says, and the empty part of a refusal.
-pub names-part : (store part : Bor (List ℕ)) (answer : Handed) (offset size : ℕ) → answer ≡ hands.Row offset size → part.ref_ptr ≡ (store.ref_ptr.0, offset + store.ref_ptr.1) → part.now ≡ take ((offset + size) - offset) (drop offset store.now) → Names store answer part
-names-part store part answer offset size is place bytes =
+pub names_part : (store part : Bor (List ℕ)) (answer : Handed) (offset size : ℕ) → answer ≡ hands.Row offset size → part.ref_ptr ≡ (store.ref_ptr.0, offset + store.ref_ptr.1) → part.now ≡ take ((offset + size) - offset) (drop offset store.now) → Names store answer part
+names_part store part answer offset size is place bytes =
     record {
       accepts = λ o w e.
           let p : o ≡ offset = cc in
@@ -48,23 +48,23 @@ names-part store part answer offset size is place bytes =
       refuses = λ number at e. let z : ◌≡◌ {A = ℕ} 0 1 = cc in absurd (let n : ⊥ = omega arith in n);
     }
 
-pub names-empty : (store part : Bor (List ℕ)) (answer : Handed) (number at : ℕ) → answer ≡ hands.Refused number at → part.now ≡ [] → Names store answer part
-names-empty store part answer number at is empty =
+pub names_empty : (store part : Bor (List ℕ)) (answer : Handed) (number at : ℕ) → answer ≡ hands.Refused number at → part.now ≡ [] → Names store answer part
+names_empty store part answer number at is empty =
     record {
       accepts = λ o w e. let z : ◌≡◌ {A = ℕ} 0 1 = cc in absurd (let n : ⊥ = omega arith in n);
       refuses = λ _ _ _. empty;
     }
 
 -- The row that the answer names lies in the store, and the part that it names is the one handed out.
-pub answer-within : (b : List ℕ) (c : ℕ) (store : List ℕ) (answer : Handed) → answer ≡ row_answer b c store → Within store answer
-answer-within b c store answer a offset size is =
-    let (e, o, w) = row-answered b c store offset size (sym is ∙ a) in
+pub answer_within : (b : List ℕ) (c : ℕ) (store : List ℕ) (answer : Handed) → answer ≡ row_answer b c store → Within store answer
+answer_within b c store answer a offset size is =
+    let (e, o, w) = row_answered b c store offset size (sym is ∙ a) in
     let m = read_named _ _ _ e in
-    omega (arith, o, w, row_in_store _ _ _ m.clear.sized (named-one _ _ _ m))
+    omega (arith, o, w, row_in_store _ _ _ m.clear.sized (named_one _ _ _ m))
 
-pub names-handed : (b : List ℕ) (c : ℕ) (store part : Bor (List ℕ)) (answer : Handed) → answer ≡ row_answer b c store.now → Names store answer part → HandsOut b c store part
-names-handed b c store part answer a n =
+pub names_handed : (b : List ℕ) (c : ℕ) (store part : Bor (List ℕ)) (answer : Handed) → answer ≡ row_answer b c store.now → Names store answer part → HandsOut b c store part
+names_handed b c store part answer a n =
     record {
-      accepts = λ e. n.accepts (pair_row_at b c) (width b) (a ∙ row-accepted b c store.now e);
-      refuses = λ number at e. n.refuses number at (a ∙ row-refused b c store.now e);
+      accepts = λ e. n.accepts (pair_row_at b c) (width b) (a ∙ row_accepted b c store.now e);
+      refuses = λ number at e. n.refuses number at (a ∙ row_refused b c store.now e);
     }

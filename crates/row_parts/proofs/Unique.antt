@@ -12,9 +12,9 @@ use Rattle.rows.proofs.RowParts.{bit_mid}
 use Rattle.rules.specs.Rules.{pair}
 use Rattle.layout.specs.Parts.{width, pair_row_at, held}
 use Rattle.layout.proofs.StoreSizes.{width_fits}
-use Rattle.layout.proofs.Offsets.{held-pair}
+use Rattle.layout.proofs.Offsets.{held_pair}
 use Rattle.read_checks.specs.Checks.{read_checks}
-use Rattle.read_checks.proofs.Acceptance.{read_named, named-one}
+use Rattle.read_checks.proofs.Acceptance.{read_named, named_one}
 use Rattle.row_parts.specs.Rows.{HandsOut}
 
 -- Bytes and, where accepted, place. Where an empty part points is free.
@@ -26,11 +26,11 @@ hands_unique b c store part part' p q = (go _ refl, λ e. (p.accepts e).place �
     go (refused number at) e = p.refuses number at e ∙ sym (q.refuses number at e)
 
 -- The bits of the part handed out are the pairs of the concept.
-pub row-holds : (b : List ℕ) (c : ℕ) (store part : Bor (List ℕ)) → HandsOut b c store part → read_checks b (c ∷ []) store.now ≡ accepted → (d : ℕ) → d < concepts b → bit part.now d ≡ held b store.now (pair c d)
-row-holds b c store part h e d l =
+pub row_holds : (b : List ℕ) (c : ℕ) (store part : Bor (List ℕ)) → HandsOut b c store part → read_checks b (c ∷ []) store.now ≡ accepted → (d : ℕ) → d < concepts b → bit part.now d ≡ held b store.now (pair c d)
+row_holds b c store part h e d l =
     let o = pair_row_at b c in
-    let lc = named-one b c store.now (read_named b (c ∷ []) store.now e) in
+    let lc = named_one b c store.now (read_named b (c ∷ []) store.now e) in
     ap (λ (xs : List ℕ). bit xs d) (h.accepts e).bytes
     ∙ ap (λ (k : ℕ). bit (take k (drop o store.now)) d) (let z : width b ≡ (o + width b) - o = omega arith in z)
     ∙ bit_mid store.now o (o + width b) d (omega (arith, width_fits b))
-    ∙ sym (held-pair b store.now c d lc l)
+    ∙ sym (held_pair b store.now c d lc l)

@@ -88,9 +88,9 @@ bit-set row i j h =
     ∙ or_comm (byte_bit (get_or row (i / 8) 0) k) (eqb (i % 8) k))
     (λ b. refl) j
 
-pub bit-clear : (row : List ℕ) (i j : ℕ) → i < 8 * length row → bit (clear_bit row i) j ≡ (not (eqb i j) && bit row j)
+pub bit_clear : (row : List ℕ) (i j : ℕ) → i < 8 * length row → bit (clear_bit row i) j ≡ (not (eqb i j) && bit row j)
 unfolding clear_bit without
-bit-clear row i j h =
+bit_clear row i j h =
     bit-written row i (bit_and (get_or row (i / 8) 0) (255 - 2 ^ (i % 8))) without h
     (λ k l.
     byte_bit_and (get_or row (i / 8) 0) (255 - 2 ^ (i % 8)) k
@@ -142,16 +142,16 @@ bit-minus_row xs ys i bs h = bit_zip byte_minus less xs ys i (λ x y k l g. byte
 
 -- ---- a row of zeros
 
-pub bytes-zero : (k : ℕ) → Bytes (replicate k 0)
-bytes-zero k i =
+pub bytes_zero : (k : ℕ) → Bytes (replicate k 0)
+bytes_zero k i =
     elim (dec_lt i k) [
       | yes l ↦ subst (λ (x : ℕ). x < 256) (sym (get_or-replicate k i 0 0 l)) (lit< tt)
       | no g ↦ subst (λ (x : ℕ). x < 256) (sym (get_or-eq_default (replicate k 0) 0 (omega (arith, length-replicate {A = ℕ} k 0)))) (lit< tt)
     ]
 
-pub bit-zeros : (n i : ℕ) → bit (replicate n 0) i ≡ false
+pub bit_zeros : (n i : ℕ) → bit (replicate n 0) i ≡ false
 unfolding bit
-bit-zeros n i =
+bit_zeros n i =
     elim (dec_lt (i / 8) n) [
       | yes l ↦ ap (λ (x : ℕ). byte_bit x (i % 8)) (get_or-replicate n (i / 8) 0 0 l) ∙ byte_bit-zero (i % 8)
       | no g ↦ bit_past (replicate n 0) i (omega (arith, length-replicate {A = ℕ} n 0))
@@ -159,8 +159,8 @@ bit-zeros n i =
 
 -- ---- bytes stay bytes
 
-pub set-bytes : (row : List ℕ) (q x : ℕ) → Bytes row → x < 256 → Bytes (set row q x)
-set-bytes row q x bs hx k =
+pub set_bytes : (row : List ℕ) (q x : ℕ) → Bytes row → x < 256 → Bytes (set row q x)
+set_bytes row q x bs hx k =
     elim (ℕ_discrete k q) [
       | no d ↦ subst (λ (y : ℕ). y < 256) (sym (get_or-set_other row q k x 0 d)) (bs k)
       | yes e ↦ elim (dec_lt q (length row)) [
@@ -176,10 +176,10 @@ power_byte k h = pow-lt h
 pub shifted_one : (k : ℕ) → k < 8 → 1 * 2 ^ k % 256 ≡ 2 ^ k
 shifted_one k h = ap (λ (x : ℕ). x % 256) (one-mul (2 ^ k)) ∙ mod-eq_of_lt (power_byte k h)
 
-pub bytes-set_bit : (row : List ℕ) (i : ℕ) → Bytes row → Bytes (set_bit row i)
+pub bytes_set_bit : (row : List ℕ) (i : ℕ) → Bytes row → Bytes (set_bit row i)
 unfolding set_bit
-bytes-set_bit row i bs =
-    set-bytes row (i / 8) (bit_or (get_or row (i / 8) 0) (2 ^ (i % 8))) bs
+bytes_set_bit row i bs =
+    set_bytes row (i / 8) (bit_or (get_or row (i / 8) 0) (2 ^ (i % 8))) bs
     (or_lt 8 (get_or row (i / 8) 0) (2 ^ (i % 8)) (bs (i / 8)) (power_byte (i % 8) (omega arith)))
 
 bytes_zip : (f : ℕ → ℕ → ℕ) (xs ys : List ℕ) → ((x y : ℕ) → x < 256 → y < 256 → f x y < 256) → Bytes xs → Bytes ys → Bytes (zip_row f xs ys)
@@ -189,13 +189,13 @@ bytes_zip f xs ys each bx by k =
       | no g ↦ subst (λ (y : ℕ). y < 256) (sym (get_or-eq_default (zip_row f xs ys) 0 (subst (λ (m : ℕ). m ≤ k) (sym (length_zip f xs ys)) (omega arith)))) (lit< tt)
     ]
 
-pub bytes-and_row : (xs ys : List ℕ) → Bytes xs → Bytes ys → Bytes (and_row xs ys)
+pub bytes_and_row : (xs ys : List ℕ) → Bytes xs → Bytes ys → Bytes (and_row xs ys)
 unfolding and_row
-bytes-and_row xs ys bx by = bytes_zip bit_and xs ys (λ x y hx hy. and_lt 8 x y hx hy) bx by
+bytes_and_row xs ys bx by = bytes_zip bit_and xs ys (λ x y hx hy. and_lt 8 x y hx hy) bx by
 
-pub bytes-minus_row : (xs ys : List ℕ) → Bytes xs → Bytes ys → Bytes (minus_row xs ys)
+pub bytes_minus_row : (xs ys : List ℕ) → Bytes xs → Bytes ys → Bytes (minus_row xs ys)
 unfolding minus_row byte_minus
-bytes-minus_row xs ys bx by = bytes_zip byte_minus xs ys (λ x y hx hy. and_lt 8 x (255 - y) hx (omega arith)) bx by
+bytes_minus_row xs ys bx by = bytes_zip byte_minus xs ys (λ x y hx hy. and_lt 8 x (255 - y) hx (omega arith)) bx by
 
 -- ---- a row by its bits
 
@@ -224,10 +224,10 @@ part_byte f xs a e i h l p =
     ∙ ap (λ (y : ℕ). set xs (a + i / 8) (f y (i % 8))) byte
     ∙ ap₂ (λ (m k : ℕ). set xs m (f (get_or xs m 0) k)) (sym q) (sym r)
 
-pub set-part : (xs : List ℕ) (a e i : ℕ) → a ≤ e → e ≤ length xs → i < 8 * (e - a) → put_mid a (e - a) xs (set_bit (mid_of a (e - a) xs) i) ≡ set_bit xs (8 * a + i)
+pub set_part : (xs : List ℕ) (a e i : ℕ) → a ≤ e → e ≤ length xs → i < 8 * (e - a) → put_mid a (e - a) xs (set_bit (mid_of a (e - a) xs) i) ≡ set_bit xs (8 * a + i)
 unfolding set_bit
-set-part = part_byte (λ y k. bit_or y (2 ^ k))
+set_part = part_byte (λ y k. bit_or y (2 ^ k))
 
-pub clear-part : (xs : List ℕ) (a e i : ℕ) → a ≤ e → e ≤ length xs → i < 8 * (e - a) → put_mid a (e - a) xs (clear_bit (mid_of a (e - a) xs) i) ≡ clear_bit xs (8 * a + i)
+pub clear_part : (xs : List ℕ) (a e i : ℕ) → a ≤ e → e ≤ length xs → i < 8 * (e - a) → put_mid a (e - a) xs (clear_bit (mid_of a (e - a) xs) i) ≡ clear_bit xs (8 * a + i)
 unfolding clear_bit
-clear-part = part_byte (λ y k. bit_and y (255 - 2 ^ k))
+clear_part = part_byte (λ y k. bit_and y (255 - 2 ^ k))

@@ -73,13 +73,13 @@ same_eq true false h = sym h
 same_eq false true h = h
 same_eq false false h = refl
 
-at-below : (f : ℕ → Bool) (n k : ℕ) → all_below f n ≡ true → k < n → f k ≡ true
+at_below : (f : ℕ → Bool) (n k : ℕ) → all_below f n ≡ true → k < n → f k ≡ true
 unfolding all_below
-at-below f zero k h l = absurd (not-suc-le-zero l)
-at-below f (suc n) k h l =
+at_below f zero k h l = absurd (not-suc-le-zero l)
+at_below f (suc n) k h l =
     ⊎_elim
     (λ e. subst (λ (m : ℕ). f m ≡ true) (sym e) ((and-eq-true_iff (f n) (all_below f n)).0 h).0)
-    (λ l'. at-below f n k ((and-eq-true_iff (f n) (all_below f n)).0 h).1 l')
+    (λ l'. at_below f n k ((and-eq-true_iff (f n) (all_below f n)).0 h).1 l')
     (split_last k n l)
 
 powers : (k j : ℕ) → Bool
@@ -92,13 +92,13 @@ pub byte_bit_power : (k j : ℕ) → k < 8 → j < 8 → byte_bit (2 ^ k) j ≡ 
 unfolding byte_bit same all_below powers
 byte_bit_power k j hk hj =
     same_eq (byte_bit (2 ^ k) j) (eqb k j)
-    (at-below (powers k) 8 j (at-below (λ (m : ℕ). all_below (powers m) 8) 8 k refl hk) hj)
+    (at_below (powers k) 8 j (at_below (λ (m : ℕ). all_below (powers m) 8) 8 k refl hk) hj)
 
 pub byte_bit_mask : (k j : ℕ) → k < 8 → j < 8 → byte_bit (255 - 2 ^ k) j ≡ not (eqb k j)
 unfolding byte_bit same all_below masks
 byte_bit_mask k j hk hj =
     same_eq (byte_bit (255 - 2 ^ k) j) (not (eqb k j))
-    (at-below (masks k) 8 j (at-below (λ (m : ℕ). all_below (masks m) 8) 8 k refl hk) hj)
+    (at_below (masks k) 8 j (at_below (λ (m : ℕ). all_below (masks m) 8) 8 k refl hk) hj)
 
 -- ---- a byte by its bits
 
@@ -149,15 +149,15 @@ unfolding count_trailing_zeros
 trailing_low zero x j h = absurd (not-suc-le-zero h)
 trailing_low (suc w) x j h = low_step x w (λ k l. trailing_low w (x / 2) k l) (x % 2) refl j h
 
-at-step : (x w : ℕ) (ih : count_trailing_zeros w (x / 2) < w → byte_bit (x / 2) (count_trailing_zeros w (x / 2)) ≡ true) (d : ℕ) → x % 2 ≡ d → under d (count_trailing_zeros w (x / 2)) < suc w → byte_bit x (under d (count_trailing_zeros w (x / 2))) ≡ true
-at-step x w ih zero e l = byte_bit_half x (count_trailing_zeros w (x / 2)) ∙ ih (le_of_suc-le-suc l)
-at-step x w ih (suc zero) e l = byte_bit_low x ∙ ap (λ (n : ℕ). eqb n 1) e
-at-step x w ih (suc (suc d)) e l = let h : x % 2 < 2 = below_two x in let z : ⊥ = omega arith in absurd z
+at_step : (x w : ℕ) (ih : count_trailing_zeros w (x / 2) < w → byte_bit (x / 2) (count_trailing_zeros w (x / 2)) ≡ true) (d : ℕ) → x % 2 ≡ d → under d (count_trailing_zeros w (x / 2)) < suc w → byte_bit x (under d (count_trailing_zeros w (x / 2))) ≡ true
+at_step x w ih zero e l = byte_bit_half x (count_trailing_zeros w (x / 2)) ∙ ih (le_of_suc-le-suc l)
+at_step x w ih (suc zero) e l = byte_bit_low x ∙ ap (λ (n : ℕ). eqb n 1) e
+at_step x w ih (suc (suc d)) e l = let h : x % 2 < 2 = below_two x in let z : ⊥ = omega arith in absurd z
 
 pub trailing_at : (w x : ℕ) → count_trailing_zeros w x < w → byte_bit x (count_trailing_zeros w x) ≡ true
 unfolding count_trailing_zeros
 trailing_at zero x h = absurd (not-suc-le-zero h)
-trailing_at (suc w) x h = at-step x w (λ l. trailing_at w (x / 2) l) (x % 2) refl h
+trailing_at (suc w) x h = at_step x w (λ l. trailing_at w (x / 2) l) (x % 2) refl h
 
 lt_step : (x w : ℕ) → 0 < x → (ih : 0 < x / 2 → count_trailing_zeros w (x / 2) < w) (d : ℕ) → x % 2 ≡ d → under d (count_trailing_zeros w (x / 2)) < suc w
 lt_step x w p ih zero e = suc-le-suc (ih (omega arith))
@@ -180,14 +180,14 @@ byte_bit_past w x k h l = ap (λ (n : ℕ). eqb (n % 2) 1) (div-eq_of_lt (lt_of_
 
 -- ---- a number above another of m digits
 
-pub byte_bit-below : (m a r i : ℕ) → i < m → byte_bit (a * 2 ^ m + r) i ≡ byte_bit r i
-byte_bit-below zero a r i h = absurd (not-suc-le-zero h)
-byte_bit-below (suc m) a r zero h =
+pub byte_bit_below : (m a r i : ℕ) → i < m → byte_bit (a * 2 ^ m + r) i ≡ byte_bit r i
+byte_bit_below zero a r i h = absurd (not-suc-le-zero h)
+byte_bit_below (suc m) a r zero h =
     byte_bit_low (a * 2 ^ suc m + r) ∙ ap (λ (n : ℕ). eqb n 1) (block_odd a m r) ∙ sym (byte_bit_low r)
-byte_bit-below (suc m) a r (suc i) h =
+byte_bit_below (suc m) a r (suc i) h =
     byte_bit_half (a * 2 ^ suc m + r) i
     ∙ ap (λ (n : ℕ). byte_bit n i) (block_half a m r)
-    ∙ byte_bit-below m a (r / 2) i (le_of_suc-le-suc h)
+    ∙ byte_bit_below m a (r / 2) i (le_of_suc-le-suc h)
     ∙ sym (byte_bit_half r i)
 
 pub byte_bit-above : (m a r j : ℕ) → r < 2 ^ m → byte_bit (a * 2 ^ m + r) (m + j) ≡ byte_bit a j

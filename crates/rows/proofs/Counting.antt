@@ -58,17 +58,17 @@ count_add test a (suc k) =
     ∙ one_if_add (test (a + k)) (count_below test a) (count_below (λ (j : ℕ). test (a + j)) k)
 
 -- A higher bound has no smaller count.
-pub count-up : (test : ℕ → Bool) (a b : ℕ) → a ≤ b → count_below test a ≤ count_below test b
-count-up test a b l =
+pub count_up : (test : ℕ → Bool) (a b : ℕ) → a ≤ b → count_below test a ≤ count_below test b
+count_up test a b l =
     let whole : a + (b - a) ≡ b = omega arith in
     subst (λ (n : ℕ). count_below test a ≤ count_below test n) whole
     (subst (λ (n : ℕ). count_below test a ≤ n) (sym (count_add test a (b - a))) (omega arith))
 
 -- Where each passes, all are counted.
-pub count-all : (test : ℕ → Bool) (k : ℕ) → ((j : ℕ) → j < k → test j ≡ true) → count_below test k ≡ k
+pub count_all : (test : ℕ → Bool) (k : ℕ) → ((j : ℕ) → j < k → test j ≡ true) → count_below test k ≡ k
 unfolding count_below
-count-all test zero e = refl
-count-all test (suc k) e = count_pass test k (e k (le_refl (suc k))) ∙ ap suc (count-all test k (λ j l. e j (omega arith)))
+count_all test zero e = refl
+count_all test (suc k) e = count_pass test k (e k (le_refl (suc k))) ∙ ap suc (count_all test k (λ j l. e j (omega arith)))
 
 -- Numbers that fail add nothing.
 pub count_none : (test : ℕ → Bool) (k : ℕ) → ((j : ℕ) → j < k → test j ≡ false) → count_below test k ≡ 0
@@ -84,10 +84,10 @@ count_skip test a k l e =
     ∙ add-zero (count_below test a)
 
 -- The lowest number first, and then the others.
-count-first : (test : ℕ → Bool) (k : ℕ) → count_below test (suc k) ≡ one_if (test 0) (count_below (λ (j : ℕ). test (suc j)) k)
+count_first : (test : ℕ → Bool) (k : ℕ) → count_below test (suc k) ≡ one_if (test 0) (count_below (λ (j : ℕ). test (suc j)) k)
 unfolding count_below one_if
-count-first test zero = refl
-count-first test (suc k) = ap (one_if (test (suc k))) (count-first test k) ∙ swap (test (suc k)) (test 0) (count_below (λ (j : ℕ). test (suc j)) k)
+count_first test zero = refl
+count_first test (suc k) = ap (one_if (test (suc k))) (count_first test k) ∙ swap (test (suc k)) (test 0) (count_below (λ (j : ℕ). test (suc j)) k)
   where
     swap : (a b : Bool) (n : ℕ) → one_if a (one_if b n) ≡ one_if b (one_if a n)
     swap true true n = refl
@@ -110,7 +110,7 @@ ones_count (suc w) x h =
     ∙ ap (λ (n : ℕ). x % 2 + n) (ones_count w (x / 2) (half_lt w h))
     ∙ digit_if (x % 2) (count_below (byte_bit (x / 2)) w) (below_two x)
     ∙ ap₂ one_if (sym (byte_bit_low x)) (count_ext (byte_bit (x / 2)) (λ (j : ℕ). byte_bit x (suc j)) w (λ j l. sym (byte_bit_half x j)))
-    ∙ sym (count-first (byte_bit x) w)
+    ∙ sym (count_first (byte_bit x) w)
 
 -- One byte more.
 pub count_byte : (row : List ℕ) (i : ℕ) → get_or row i 0 < 256 → count_below (bit row) (8 * (i + 1)) ≡ count_below (bit row) (8 * i) + ones (get_or row i 0)
@@ -138,10 +138,10 @@ unfolding some_below
 some_ext f g zero e = refl
 some_ext f g (suc k) e = ap₂ ◌||◌ (e k (le_refl (suc k))) (some_ext f g k (λ j l. e j (omega arith)))
 
-pub some-none : (test : ℕ → Bool) (k : ℕ) → ((j : ℕ) → j < k → test j ≡ false) → some_below test k ≡ false
+pub some_none : (test : ℕ → Bool) (k : ℕ) → ((j : ℕ) → j < k → test j ≡ false) → some_below test k ≡ false
 unfolding some_below
-some-none test zero e = refl
-some-none test (suc k) e = ap₂ ◌||◌ (e k (le_refl (suc k))) (some-none test k (λ j l. e j (omega arith)))
+some_none test zero e = refl
+some_none test (suc k) e = ap₂ ◌||◌ (e k (le_refl (suc k))) (some_none test k (λ j l. e j (omega arith)))
 
 -- Where the test passes for some number below k, there is one.
 pub some_which : (test : ℕ → Bool) (k : ℕ) → some_below test k ≡ true → (j : ℕ) × (j < k) × (test j ≡ true)
@@ -172,21 +172,21 @@ none_below test k j h l = go (test j) refl
 
 -- ---- a row's bits
 
-pub any-set : (row : List ℕ) (i : ℕ) → bit row i ≡ true → any_bit row ≡ true
+pub any_set : (row : List ℕ) (i : ℕ) → bit row i ≡ true → any_bit row ≡ true
 unfolding any_bit
-any-set row i h = some_at (bit row) (8 * length row) i (set_below row i h) h
+any_set row i h = some_at (bit row) (8 * length row) i (set_below row i h) h
 
-pub any-clear : (row : List ℕ) → ((i : ℕ) → bit row i ≡ false) → any_bit row ≡ false
+pub any_clear : (row : List ℕ) → ((i : ℕ) → bit row i ≡ false) → any_bit row ≡ false
 unfolding any_bit
-any-clear row e = some-none (bit row) (8 * length row) (λ j l. e j)
+any_clear row e = some_none (bit row) (8 * length row) (λ j l. e j)
 
 pub any_which : (row : List ℕ) → any_bit row ≡ true → (i : ℕ) × (i < 8 * length row) × (bit row i ≡ true)
 unfolding any_bit
 any_which row h = some_which (bit row) (8 * length row) h
 
-pub none-set : (row : List ℕ) → any_bit row ≡ false → (i : ℕ) → bit row i ≡ false
+pub none_set : (row : List ℕ) → any_bit row ≡ false → (i : ℕ) → bit row i ≡ false
 unfolding any_bit
-none-set row h i =
+none_set row h i =
     elim (dec_lt i (8 * length row)) [
       | yes l ↦ none_below (bit row) (8 * length row) i h l
       | no g ↦ bit_past row i (omega arith)

@@ -13,11 +13,11 @@ pub record Front (new old now : List ℕ) (i : ℕ) : Type 0 where
   pub below : (k : ℕ) → k < i → get_or now k 0 ≡ get_or new k 0
   pub above : (k : ℕ) → i ≤ k → get_or now k 0 ≡ get_or old k 0
 
-pub front-none : (new old : List ℕ) → Front new old old 0
-front-none new old = record { long = refl; below = λ k l. absurd (let z : ⊥ = omega arith in z); above = λ k l. refl }
+pub front_none : (new old : List ℕ) → Front new old old 0
+front_none new old = record { long = refl; below = λ k l. absurd (let z : ⊥ = omega arith in z); above = λ k l. refl }
 
-pub front-more : (new old now : List ℕ) (i v : ℕ) → Front new old now i → i < length old → v ≡ get_or new i 0 → Front new old (set now i v) (i + 1)
-front-more new old now i v f l e =
+pub front_more : (new old now : List ℕ) (i v : ℕ) → Front new old now i → i < length old → v ≡ get_or new i 0 → Front new old (set now i v) (i + 1)
+front_more new old now i v f l e =
     record {
       long = length-set now i v ∙ f.long;
       below = λ k h.
@@ -28,5 +28,5 @@ front-more new old now i v f l e =
       above = λ k h. get_or-set_other now i k v 0 (λ s. omega arith) ∙ f.above k (omega arith);
     }
 
-pub front-all : (new old now : List ℕ) → length new ≡ length old → Front new old now (length old) → now ≡ new
-front-all new old now e f = ext_get_or 0 now new (f.long ∙ sym e) (λ k l. f.below k (omega (arith, f.long)))
+pub front_all : (new old now : List ℕ) → length new ≡ length old → Front new old now (length old) → now ≡ new
+front_all new old now e f = ext_get_or 0 now new (f.long ∙ sym e) (λ k l. f.below k (omega (arith, f.long)))

@@ -17,18 +17,18 @@ use Rattle.rows.specs.declared.Found.{Found}
 use Rattle.rows.specs.declared.Found.TheVariants.{At, Nothing}
 use Rattle.rows.proofs.ByteBits.{byte_bit-zero, byte_bit_shift, byte_bit_past, trailing_low, trailing_at, trailing_lt}
 use Rattle.rows.proofs.Bits.{bit_past, bit_at}
-use Rattle.rows.proofs.Counting.{any-set, any-clear}
+use Rattle.rows.proofs.Counting.{any_set, any_clear}
 use Rattle.rows.proofs.Words.{BytesFrom, number_lt, number_bit}
 
 -- ---- one step of the search
 
-lowest-here : (test : ℕ → Bool) (i k : ℕ) → test i ≡ true → lowest test i (suc k) ≡ At i
+lowest_here : (test : ℕ → Bool) (i k : ℕ) → test i ≡ true → lowest test i (suc k) ≡ At i
 unfolding lowest
-lowest-here test i k h = rw (h, lowest)
+lowest_here test i k h = rw (h, lowest)
 
-lowest-on : (test : ℕ → Bool) (i k : ℕ) → test i ≡ false → lowest test i (suc k) ≡ lowest test (suc i) k
+lowest_on : (test : ℕ → Bool) (i k : ℕ) → test i ≡ false → lowest test i (suc k) ≡ lowest test (suc i) k
 unfolding lowest
-lowest-on test i k h = rw (h, lowest)
+lowest_on test i k h = rw (h, lowest)
 
 -- ---- what is found
 
@@ -36,24 +36,24 @@ found : (test : ℕ → Bool) (k i j : ℕ) → i ≤ j → j < i + k → test j
 found test zero i j l h t below = let z : ⊥ = omega arith in absurd z
 found test (suc k) i j l h t below =
     elim (ℕ_discrete i j) [
-      | yes e ↦ lowest-here test i k (ap test e ∙ t) ∙ ap At e
-      | no d ↦ lowest-on test i k (below i (omega arith) (omega arith)) ∙ found test k (suc i) j (omega arith) (omega arith) t (λ a p q. below a (omega arith) q)
+      | yes e ↦ lowest_here test i k (ap test e ∙ t) ∙ ap At e
+      | no d ↦ lowest_on test i k (below i (omega arith) (omega arith)) ∙ found test k (suc i) j (omega arith) (omega arith) t (λ a p q. below a (omega arith) q)
     ]
 
 missed : (test : ℕ → Bool) (k i : ℕ) → ((a : ℕ) → i ≤ a → a < i + k → test a ≡ false) → lowest test i k ≡ Nothing
 unfolding lowest
 missed test zero i none = refl
 missed test (suc k) i none =
-    lowest-on test i k (none i (omega arith) (omega arith))
+    lowest_on test i k (none i (omega arith) (omega arith))
     ∙ missed test k (suc i) (λ a p q. none a (omega arith) (omega arith))
 
-pub next-at : (row : List ℕ) (i j : ℕ) → i ≤ j → j < 8 * length row → bit row j ≡ true → ((a : ℕ) → i ≤ a → a < j → bit row a ≡ false) → next_bit row i ≡ At j
+pub next_at : (row : List ℕ) (i j : ℕ) → i ≤ j → j < 8 * length row → bit row j ≡ true → ((a : ℕ) → i ≤ a → a < j → bit row a ≡ false) → next_bit row i ≡ At j
 unfolding next_bit
-next-at row i j l h t below = found (bit row) (8 * length row - i) i j l (omega arith) t below
+next_at row i j l h t below = found (bit row) (8 * length row - i) i j l (omega arith) t below
 
-pub next-none : (row : List ℕ) (i : ℕ) → ((a : ℕ) → i ≤ a → bit row a ≡ false) → next_bit row i ≡ Nothing
+pub next_none : (row : List ℕ) (i : ℕ) → ((a : ℕ) → i ≤ a → bit row a ≡ false) → next_bit row i ≡ Nothing
 unfolding next_bit
-next-none row i none = missed (bit row) (8 * length row - i) i (λ a p q. none a p)
+next_none row i none = missed (bit row) (8 * length row - i) i (λ a p q. none a p)
 
 -- ---- what callers learn
 
@@ -66,15 +66,15 @@ record LowestAt (test : ℕ → Bool) (i k j : ℕ) : Type 0 where
 at_inj : (a b : ℕ) → At a ≡ At b → a ≡ b
 at_inj a b e = cc
 
-nothing-at : (j : ℕ) → Nothing ≡ At j → ⊥
-nothing-at j e = let z : ◌≡◌ {A = ℕ} 0 1 = cc in omega arith
+nothing_at : (j : ℕ) → Nothing ≡ At j → ⊥
+nothing_at j e = let z : ◌≡◌ {A = ℕ} 0 1 = cc in omega arith
 
-step-at : (test : ℕ → Bool) (k i j : ℕ) → lowest test i (suc k) ≡ At j → (lowest test (suc i) k ≡ At j → LowestAt test (suc i) k j) → (b : Bool) → test i ≡ b → LowestAt test i (suc k) j
-step-at test k i j e ih true t =
-    let s : i ≡ j = at_inj i j (sym (lowest-here test i k t) ∙ e) in
+step_at : (test : ℕ → Bool) (k i j : ℕ) → lowest test i (suc k) ≡ At j → (lowest test (suc i) k ≡ At j → LowestAt test (suc i) k j) → (b : Bool) → test i ≡ b → LowestAt test i (suc k) j
+step_at test k i j e ih true t =
+    let s : i ≡ j = at_inj i j (sym (lowest_here test i k t) ∙ e) in
     record { from = omega arith; inside = omega arith; is_set = ap test (sym s) ∙ t; none_before = λ a p q. absurd (let z : ⊥ = omega arith in z) }
-step-at test k i j e ih false t =
-    let r : LowestAt test (suc i) k j = ih (sym (lowest-on test i k t) ∙ e) in
+step_at test k i j e ih false t =
+    let r : LowestAt test (suc i) k j = ih (sym (lowest_on test i k t) ∙ e) in
     record {
       from = omega (arith, r.from);
       inside = omega (arith, r.inside);
@@ -88,20 +88,20 @@ step-at test k i j e ih false t =
 
 found_at : (test : ℕ → Bool) (k i j : ℕ) → lowest test i k ≡ At j → LowestAt test i k j
 unfolding lowest
-found_at test zero i j e = absurd (nothing-at j e)
-found_at test (suc k) i j e = step-at test k i j e (λ h. found_at test k (suc i) j h) (test i) refl
+found_at test zero i j e = absurd (nothing_at j e)
+found_at test (suc k) i j e = step_at test k i j e (λ h. found_at test k (suc i) j h) (test i) refl
 
-step-none : (test : ℕ → Bool) (k i : ℕ) → lowest test i (suc k) ≡ Nothing → (lowest test (suc i) k ≡ Nothing → (a : ℕ) → suc i ≤ a → a < suc i + k → test a ≡ false) → (b : Bool) → test i ≡ b → (a : ℕ) → i ≤ a → a < i + suc k → test a ≡ false
-step-none test k i e ih true t a p q = absurd (nothing-at i (sym e ∙ lowest-here test i k t))
-step-none test k i e ih false t a p q =
+step_none : (test : ℕ → Bool) (k i : ℕ) → lowest test i (suc k) ≡ Nothing → (lowest test (suc i) k ≡ Nothing → (a : ℕ) → suc i ≤ a → a < suc i + k → test a ≡ false) → (b : Bool) → test i ≡ b → (a : ℕ) → i ≤ a → a < i + suc k → test a ≡ false
+step_none test k i e ih true t a p q = absurd (nothing_at i (sym e ∙ lowest_here test i k t))
+step_none test k i e ih false t a p q =
     elim (ℕ_discrete i a) [
       | yes s ↦ ap test (sym s) ∙ t
-      | no d ↦ ih (sym (lowest-on test i k t) ∙ e) a (omega arith) (omega arith)
+      | no d ↦ ih (sym (lowest_on test i k t) ∙ e) a (omega arith) (omega arith)
     ]
 
 found_none : (test : ℕ → Bool) (k i : ℕ) → lowest test i k ≡ Nothing → (a : ℕ) → i ≤ a → a < i + k → test a ≡ false
 found_none test zero i e a p q = let z : ⊥ = omega arith in absurd z
-found_none test (suc k) i e a p q = step-none test k i e (λ h. found_none test k (suc i) h) (test i) refl a p q
+found_none test (suc k) i e a p q = step_none test k i e (λ h. found_none test k (suc i) h) (test i) refl a p q
 
 -- The bit found is set, lies from i on and within the row, and none between is set.
 pub record NextAt (row : List ℕ) (i j : ℕ) : Type 0 where
@@ -117,9 +117,9 @@ at_next row i j e =
     record { from = r.from; inside = omega (arith, r.from, r.inside); is_set = r.is_set; none_before = r.none_before }
 
 -- Where nothing is found, no bit from i on is set.
-pub none-next : (row : List ℕ) (i : ℕ) → next_bit row i ≡ Nothing → (a : ℕ) → i ≤ a → bit row a ≡ false
+pub none_next : (row : List ℕ) (i : ℕ) → next_bit row i ≡ Nothing → (a : ℕ) → i ≤ a → bit row a ≡ false
 unfolding next_bit
-none-next row i e a p =
+none_next row i e a p =
     elim (dec_lt a (8 * length row)) [
       | yes l ↦ found_none (bit row) (8 * length row - i) i e a p (omega arith)
       | no g ↦ bit_past row a (omega arith)
@@ -137,9 +137,9 @@ next_skip row i j l clear = go (next_bit row j) refl
     go : (r : Found) → next_bit row j ≡ r → next_bit row i ≡ r
     go (At k) e =
         let n : NextAt row j k = at_next row j k e in
-        next-at row i k (omega (arith, n.from)) n.inside n.is_set
+        next_at row i k (omega (arith, n.from)) n.inside n.is_set
         (λ a p q. here a p (λ b g s. n.none_before b g (omega arith)))
-    go Nothing e = next-none row i (λ a p. here a p (λ b g s. none-next row j e b g))
+    go Nothing e = next_none row i (λ a p. here a p (λ b g s. none_next row j e b g))
 
 -- A byte that is 0 has no set bit.
 pub zero_byte : (row : List ℕ) (q : ℕ) → get_or row q 0 ≡ 0 → (a : ℕ) → a / 8 ≡ q → bit row a ≡ false
@@ -175,7 +175,7 @@ module _ (row : List ℕ) (p w n : ℕ) (same : (j : ℕ) → j < w → byte_bit
       ]
       in
       let place : p + s + t ≡ p + (s + t) = omega arith in
-      next-at row (p + s) (p + s + t) (omega arith) (omega arith)
+      next_at row (p + s) (p + s + t) (omega arith) (omega arith)
       (ap (bit row) place ∙ sym (same (s + t) within) ∙ lit)
       (λ a l r.
       let j = a - (p + s) in
@@ -187,20 +187,20 @@ pub next_in_byte : (row : List ℕ) (q s x : ℕ) → q < length row → s < 8 �
 next_in_byte row q s x h l e byte nz =
     next_in_digits row (8 * q) 8 (get_or row q 0) (λ j g. sym (bit_at row q j g)) byte (omega arith) s x e nz
 
-pub rest-clear : (row : List ℕ) (q s : ℕ) → s < 8 → get_or row q 0 / 2 ^ s ≡ 0 → (a : ℕ) → 8 * q + s ≤ a → a < 8 * q + 8 → bit row a ≡ false
-rest-clear row q s l e a p r = digits_clear row (8 * q) 8 (get_or row q 0) (λ j g. sym (bit_at row q j g)) s e a p r
+pub rest_clear : (row : List ℕ) (q s : ℕ) → s < 8 → get_or row q 0 / 2 ^ s ≡ 0 → (a : ℕ) → 8 * q + s ≤ a → a < 8 * q + 8 → bit row a ≡ false
+rest_clear row q s l e a p r = digits_clear row (8 * q) 8 (get_or row q 0) (λ j g. sym (bit_at row q j g)) s e a p r
 
 -- And for the number of the k bytes from q on.
 pub next_in_number : (row : List ℕ) (q k s x : ℕ) → BytesFrom row q k → q + k ≤ length row → x ≡ number_at row q k / 2 ^ s → (x ≡ 0 → ⊥) → next_bit row (8 * q + s) ≡ At (8 * q + s + count_trailing_zeros (8 * k) x)
 next_in_number row q k s x bs h e nz =
     next_in_digits row (8 * q) (8 * k) (number_at row q k) (λ j g. number_bit row q k j bs g) (number_lt row q k bs) (omega arith) s x e nz
 
-pub number-clear : (row : List ℕ) (q k s : ℕ) → BytesFrom row q k → number_at row q k / 2 ^ s ≡ 0 → (a : ℕ) → 8 * q + s ≤ a → a < 8 * q + 8 * k → bit row a ≡ false
-number-clear row q k s bs e a p r = digits_clear row (8 * q) (8 * k) (number_at row q k) (λ j g. number_bit row q k j bs g) s e a p r
+pub number_clear : (row : List ℕ) (q k s : ℕ) → BytesFrom row q k → number_at row q k / 2 ^ s ≡ 0 → (a : ℕ) → 8 * q + s ≤ a → a < 8 * q + 8 * k → bit row a ≡ false
+number_clear row q k s bs e a p r = digits_clear row (8 * q) (8 * k) (number_at row q k) (λ j g. number_bit row q k j bs g) s e a p r
 
 -- A place and the zeros below a lowest set digit fit in 64 bits.
-pub place-fits : (w i x : ℕ) → i + w < 2 ^ 64 → i + count_trailing_zeros w x < 2 ^ 64
-place-fits w i x h = omega (arith, trailing_le w x)
+pub place_fits : (w i x : ℕ) → i + w < 2 ^ 64 → i + count_trailing_zeros w x < 2 ^ 64
+place_fits w i x h = omega (arith, trailing_le w x)
 
 pub zeros_fit : (w x : ℕ) → w < 2 ^ 64 → count_trailing_zeros w x < 2 ^ 64
 zeros_fit w x h = lt_of_le_of_lt (trailing_le w x) h
@@ -212,11 +212,11 @@ any_nonzero row q h byte nz =
     at_next row (8 * q + 0) (8 * q + 0 + count_trailing_zeros 8 (get_or row q 0))
     (next_in_byte row q 0 (get_or row q 0) h (lit< tt) (sym (div-one (get_or row q 0))) byte nz)
     in
-    any-set row (8 * q + 0 + count_trailing_zeros 8 (get_or row q 0)) n.is_set
+    any_set row (8 * q + 0 + count_trailing_zeros 8 (get_or row q 0)) n.is_set
 
-pub any-zero : (row : List ℕ) → ((q : ℕ) → q < length row → get_or row q 0 ≡ 0) → any_bit row ≡ false
-any-zero row z =
-    any-clear row
+pub any_zero : (row : List ℕ) → ((q : ℕ) → q < length row → get_or row q 0 ≡ 0) → any_bit row ≡ false
+any_zero row z =
+    any_clear row
     (λ i.
     elim (dec_lt i (8 * length row)) [
       | yes l ↦ zero_byte row (i / 8) (z (i / 8) (omega arith)) i refl

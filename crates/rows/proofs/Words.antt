@@ -12,7 +12,7 @@ use lib.Count.{ones, ones_cat}
 use lib.Pow.{pow_mono, shl_lt, shl_exact}
 use Rattle.rows.specs.Bits.{byte_bit, bit, count_below}
 use Rattle.rows.specs.Words.{number_at}
-use Rattle.rows.proofs.ByteBits.{byte_bit-below, byte_bit-above}
+use Rattle.rows.proofs.ByteBits.{byte_bit_below, byte_bit-above}
 use Rattle.rows.proofs.Bits.{bit_at}
 use Rattle.rows.proofs.Counting.{count_byte}
 
@@ -58,7 +58,7 @@ number_bit row at (suc k) i bs h =
     let byte = get_or row (at + k) 0 in
     let rest = number_at row at k in
     elim (dec_lt i (8 * k)) [
-      | yes l ↦ byte_bit-below (8 * k) byte rest i l ∙ number_bit row at k i (fewer row at k bs) l
+      | yes l ↦ byte_bit_below (8 * k) byte rest i l ∙ number_bit row at k i (fewer row at k bs) l
       | no g ↦
           let j = i - 8 * k in
           let there : 8 * k + j ≡ i = omega arith in
@@ -87,16 +87,16 @@ number_ones row at (suc k) bs =
     ∙ ap (λ (n : ℕ). n + ones byte) (number_ones row at k (fewer row at k bs))
 
 -- The row's set bits below a place, k bytes further on.
-count-bytes : (row : List ℕ) (at k : ℕ) → BytesFrom row at k → count_below (bit row) (8 * (at + k)) ≡ count_below (bit row) (8 * at) + ones_from row at k
+count_bytes : (row : List ℕ) (at k : ℕ) → BytesFrom row at k → count_below (bit row) (8 * (at + k)) ≡ count_below (bit row) (8 * at) + ones_from row at k
 unfolding ones_from
-count-bytes row at zero bs =
+count_bytes row at zero bs =
     ap (λ (i : ℕ). count_below (bit row) (8 * i)) (add-zero at) ∙ sym (add-zero (count_below (bit row) (8 * at)))
-count-bytes row at (suc k) bs =
+count_bytes row at (suc k) bs =
     let one_on : 8 * (at + suc k) ≡ 8 * (at + k + 1) = omega arith in
     ap (count_below (bit row)) one_on
     ∙ count_byte row (at + k) (bs k (omega arith))
-    ∙ ap (λ (n : ℕ). n + ones (get_or row (at + k) 0)) (count-bytes row at k (fewer row at k bs))
+    ∙ ap (λ (n : ℕ). n + ones (get_or row (at + k) 0)) (count_bytes row at k (fewer row at k bs))
     ∙ add_assoc (count_below (bit row) (8 * at)) (ones_from row at k) (ones (get_or row (at + k) 0))
 
-pub count-number : (row : List ℕ) (at k : ℕ) → BytesFrom row at k → count_below (bit row) (8 * (at + k)) ≡ count_below (bit row) (8 * at) + ones (number_at row at k)
-count-number row at k bs = count-bytes row at k bs ∙ ap (λ (n : ℕ). count_below (bit row) (8 * at) + n) (sym (number_ones row at k bs))
+pub count_number : (row : List ℕ) (at k : ℕ) → BytesFrom row at k → count_below (bit row) (8 * (at + k)) ≡ count_below (bit row) (8 * at) + ones (number_at row at k)
+count_number row at k bs = count_bytes row at k bs ∙ ap (λ (n : ℕ). count_below (bit row) (8 * at) + n) (sym (number_ones row at k bs))

@@ -26,9 +26,9 @@ unfolding word
 zeros k i l = ap₂ (λ (x y : ℕ). x + 256 * y) (get_or-replicate k i 0 0 (omega arith)) (get_or-replicate k (i + 1) 0 0 l)
 
 module _ (n : ℕ) where
-  pub atomic-count : concepts (atomic_concepts n) ≡ n
+  pub atomic_count : concepts (atomic_concepts n) ≡ n
   unfolding atomic_concepts atomic_header concepts word bytes_of
-  atomic-count = omega arith
+  atomic_count = omega arith
 
   long : length (atomic_concepts n) ≡ 20 + 6 * n
   unfolding atomic_concepts
@@ -46,23 +46,23 @@ module _ (n : ℕ) where
   pub zero_record : (i : ℕ) → i < concepts (atomic_concepts n) → (kind (atomic_concepts n) i ≡ 0) × (first (atomic_concepts n) i ≡ 0) × (second (atomic_concepts n) i ≡ 0)
   unfolding kind first second
   zero_record i l =
-      let h : i < n = omega (arith, atomic-count) in
+      let h : i < n = omega (arith, atomic_count) in
       (zero_word (6 * i) _ refl (omega arith), zero_word (6 * i + 2) _ (omega arith) (omega arith), zero_word (6 * i + 4) _ (omega arith) (omega arith))
 
   pub atomic_well_formed : 1 ≤ n → n ≤ 512 → WellFormed (atomic_concepts n)
   unfolding atomic_concepts atomic_header roles inclusions compositions axioms concepts_at inclusions_at compositions_at axioms_at word bytes_of
   atomic_well_formed some few =
       record {
-        some_concept = omega (arith, atomic-count);
-        concepts-limit = omega (arith, atomic-count);
-        roles-limit = omega arith;
-        inclusions-limit = omega arith;
-        compositions-limit = omega arith;
-        axioms-limit = omega arith;
-        concepts-start = refl;
-        inclusions-start = omega (arith, atomic-count);
-        compositions-start = omega arith;
-        axioms-start = omega arith;
+        some_concept = omega (arith, atomic_count);
+        concepts_limit = omega (arith, atomic_count);
+        roles_limit = omega arith;
+        inclusions_limit = omega arith;
+        compositions_limit = omega arith;
+        axioms_limit = omega arith;
+        concepts_start = refl;
+        inclusions_start = omega (arith, atomic_count);
+        compositions_start = omega arith;
+        axioms_start = omega arith;
         whole = omega (arith, long);
         kinds = λ i l. let z = (zero_record i l).0 in omega arith;
         atomic = λ i l k. let z = zero_record i l in (z.1, z.2);
@@ -74,12 +74,12 @@ module _ (n : ℕ) where
         rising = λ k l. absurd (not-suc-le-zero l);
       }
 
-  pub atomic-accepted : 1 ≤ n → n ≤ 512 → checked (atomic_concepts n) ≡ accepted
-  atomic-accepted some few = well_formed_accepted (atomic_well_formed some few) total_right
+  pub atomic_accepted : 1 ≤ n → n ≤ 512 → checked (atomic_concepts n) ≡ accepted
+  atomic_accepted some few = well_formed_accepted (atomic_well_formed some few) total_right
 
   pub atomic_too_many : 512 < n → checked (atomic_concepts n) ≡ refused 3 0
   unfolding ask_all checked catalogue_checks catalogue_questions header_questions header_fits total_right counts_in_limits
   atomic_too_many many =
       ask_yes 1 0 _ (le-leb 20 (length (atomic_concepts n)) (omega (arith, long)))
       ∙ ask_yes 2 0 _ (eq-eqb _ _ total_right)
-      ∙ ask_no 3 0 _ (rw (le-leb 1 (concepts (atomic_concepts n)) (omega (arith, atomic-count)), lt-leb (concepts (atomic_concepts n)) 512 (omega (arith, atomic-count))))
+      ∙ ask_no 3 0 _ (rw (le-leb 1 (concepts (atomic_concepts n)) (omega (arith, atomic_count)), lt-leb (concepts (atomic_concepts n)) 512 (omega (arith, atomic_count))))

@@ -19,25 +19,25 @@ pub store_long : (b : List ℕ) (long : ℕ) → store_fits b long ≡ true → 
 unfolding store_fits
 store_long b long e = leb-true _ _ e
 
-pub store-short : (b : List ℕ) (long : ℕ) → store_fits b long ≡ false → long < used b
+pub store_short : (b : List ℕ) (long : ℕ) → store_fits b long ≡ false → long < used b
 unfolding store_fits
-store-short b long e = leb-false _ _ e
+store_short b long e = leb-false _ _ e
 
-pub work-long : (b : List ℕ) (long : ℕ) → work_fits b long ≡ true → work_used b ≤ long
+pub work_long : (b : List ℕ) (long : ℕ) → work_fits b long ≡ true → work_used b ≤ long
 unfolding work_fits
-work-long b long e = leb-true _ _ e
+work_long b long e = leb-true _ _ e
 
-pub list-long : (b : List ℕ) (long : ℕ) → list_fits b long ≡ true → 2 * concepts b ≤ long
+pub list_long : (b : List ℕ) (long : ℕ) → list_fits b long ≡ true → 2 * concepts b ≤ long
 unfolding list_fits
-list-long b long e = leb-true _ _ e
+list_long b long e = leb-true _ _ e
 
-pub axioms-few : (b : List ℕ) (F : Axioms) → axioms_in_limit b F ≡ true → axiom_count b F ≤ 4096
+pub axioms_few : (b : List ℕ) (F : Axioms) → axioms_in_limit b F ≡ true → axiom_count b F ≤ 4096
 unfolding axioms_in_limit
-axioms-few b F e = leb-true _ _ e
+axioms_few b F e = leb-true _ _ e
 
-pub few-axioms : (b : List ℕ) (F : Axioms) → axiom_count b F ≤ 4096 → axioms_in_limit b F ≡ true
+pub few_axioms : (b : List ℕ) (F : Axioms) → axiom_count b F ≤ 4096 → axioms_in_limit b F ≡ true
 unfolding axioms_in_limit
-few-axioms b F l = le-leb _ _ l
+few_axioms b F l = le-leb _ _ l
 
 -- ---- concepts named
 
@@ -50,8 +50,8 @@ unfolding every
 every_two test c d = ap (λ t. test c && t) (every_one test d)
 
 -- Two numbers below the count of concepts, as the code tests them.
-pub numbers-below : (b : List ℕ) (n c d : ℕ) {t : Bool} → n ≡ concepts b → (ltb c n && ltb d n) ≡ t → numbers_below b (c ∷ d ∷ []) ≡ t
-numbers-below b n c d e h = every_two (λ x. ltb x (concepts b)) c d ∙ ap (λ k. ltb c k && ltb d k) (sym e) ∙ h
+pub numbers_below_lem : (b : List ℕ) (n c d : ℕ) {t : Bool} → n ≡ concepts b → (ltb c n && ltb d n) ≡ t → numbers_below b (c ∷ d ∷ []) ≡ t
+numbers_below_lem b n c d e h = every_two (λ x. ltb x (concepts b)) c d ∙ ap (λ k. ltb c k && ltb d k) (sym e) ∙ h
 
 pub two_numbers : (b : List ℕ) (c d : ℕ) → numbers_below b (c ∷ d ∷ []) ≡ true → (c < concepts b) × (d < concepts b)
 two_numbers b c d e =
@@ -64,9 +64,9 @@ module _ {S : Expression → Type 0} (b : List ℕ) (F : Axioms) (store : List �
   pub marked-axioms : in_force b store ≡ F
   marked-axioms = fun_ext (λ c. fun_ext (λ d. marked.axioms c d))
 
-  pub marked-fits : store_fits b (length store) ≡ true
+  pub marked_fits : store_fits b (length store) ≡ true
   unfolding store_fits
-  marked-fits = le-leb _ _ marked.long
+  marked_fits = le-leb _ _ marked.long
 
-  pub marked-limit : axiom_count b F ≤ 4096 → axioms_in_limit b (in_force b store) ≡ true
-  marked-limit few = ap (axioms_in_limit b) marked-axioms ∙ few-axioms b F few
+  pub marked_limit : axiom_count b F ≤ 4096 → axioms_in_limit b (in_force b store) ≡ true
+  marked_limit few = ap (axioms_in_limit b) marked-axioms ∙ few_axioms b F few

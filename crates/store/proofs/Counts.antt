@@ -14,7 +14,7 @@ use Rattle.rows.proofs.Places.{place-within}
 use Rattle.layout.specs.Parts.{width, used, axiom_rows, in_force, spare_clear}
 use Rattle.store.specs.Written.{numbered, axiom_count}
 use Rattle.layout.proofs.StoreSizes.{rows_split, width_fits}
-use Rattle.layout.proofs.StoreRows.{rows_long, bit_axiom_rows, in_force_bit, spare-clear}
+use Rattle.layout.proofs.StoreRows.{rows_long, bit_axiom_rows, in_force_bit, spare_clear}
 use Rattle.store.proofs.Written.{number-left, number-right}
 
 -- Rows of w bytes that mark F below n and nothing from n upward.
@@ -26,15 +26,15 @@ module _ (n w : ℕ) (F : Axioms) (rows : List ℕ) (fits : n ≤ 8 * w) (marked
       ∙ count_ext (λ d. bit rows (8 * (c * w) + d)) (λ d. F ((c * n + d) / n) ((c * n + d) % n)) n
       (λ d h. marked c d l h ∙ sym (ap₂ F (number-left n c d h) (number-right n c d h)))
 
-  rows-count : (c : ℕ) → c ≤ n → count_below (bit rows) (8 * (c * w)) ≡ count_below (numbered n F) (c * n)
+  rows_count : (c : ℕ) → c ≤ n → count_below (bit rows) (8 * (c * w)) ≡ count_below (numbered n F) (c * n)
   unfolding count_below
-  rows-count zero l =
+  rows_count zero l =
       ap (λ k. count_below (bit rows) (8 * k)) (zero-mul w)
       ∙ sym (ap (count_below (numbered n F)) (zero-mul n))
-  rows-count (suc c) l =
+  rows_count (suc c) l =
       ap (count_below (bit rows)) (let z : 8 * (suc c * w) ≡ 8 * (c * w) + 8 * w = omega (arith, suc-mul c w) in z)
       ∙ count_add (bit rows) (8 * (c * w)) (8 * w)
-      ∙ ap₂ ◌+◌ (rows-count c (omega arith)) (row_count c l)
+      ∙ ap₂ ◌+◌ (rows_count c (omega arith)) (row_count c l)
       ∙ sym (count_add (numbered n F) (c * n) n)
       ∙ ap (count_below (numbered n F)) (sym (suc-mul c n))
 
@@ -49,7 +49,7 @@ axiom_count_lem b store long clear =
     λ c d l h. bit_axiom_rows b store (place w c d) (place-within w c n d l h)
     in
     ap (λ k. count_below (bit (axiom_rows b store)) (8 * k)) (rows_long b store long)
-    ∙ rows-count n w (in_force b store) (axiom_rows b store) fits
+    ∙ rows_count n w (in_force b store) (axiom_rows b store) fits
     (λ c d l h. let g : d < 8 * w = omega arith in place_in c d l g ∙ sym (in_force_bit b store c d l g))
-    (λ c d l low h. place_in c d l h ∙ spare-clear b store clear c d (omega (arith, rows_split b)) low h)
+    (λ c d l low h. place_in c d l h ∙ spare_clear b store clear c d (omega (arith, rows_split b)) low h)
     n (le_refl n)

@@ -16,16 +16,16 @@ use Rattle.store.specs.Written.{rising, numbered, axiom_count, sides_of, axiom_r
 use Rattle.store.specs.Checks.{store_fits, work_fits, list_fits, ask_store, ask_work, ask_list, ask_spare}
 use Rattle.store.specs.Examples.{atomic_concepts}
 use Rattle.layout.proofs.StoreRows.{no_spare}
-use Rattle.store.proofs.AtomicConcepts.{atomic-count}
+use Rattle.store.proofs.AtomicConcepts.{atomic_count}
 
 -- W1: the store has 35 bytes, the work space 28, the list 14; one byte less is refused.
-pub w1-lengths : (used w1 ≡ 35) × (work_used w1 ≡ 28)
+pub w1_lengths : (used w1 ≡ 35) × (work_used w1 ≡ 28)
 unfolding w1 word concepts roles width used work_used
-w1-lengths = (refl, refl)
+w1_lengths = (refl, refl)
 
-pub w1-lengths-asked : (ask_store w1 35 accepted ≡ accepted) × (ask_store w1 34 accepted ≡ refused 10 0) × (ask_work w1 28 accepted ≡ accepted) × (ask_work w1 27 accepted ≡ refused 11 0) × (ask_list w1 14 accepted ≡ accepted) × (ask_list w1 13 accepted ≡ refused 12 0)
+pub w1_lengths_asked : (ask_store w1 35 accepted ≡ accepted) × (ask_store w1 34 accepted ≡ refused 10 0) × (ask_work w1 28 accepted ≡ accepted) × (ask_work w1 27 accepted ≡ refused 11 0) × (ask_list w1 14 accepted ≡ accepted) × (ask_list w1 13 accepted ≡ refused 12 0)
 unfolding w1 word concepts roles width used work_used ask store_fits work_fits list_fits ask_store ask_work ask_list
-w1-lengths-asked = (refl, refl, refl, refl, refl, refl)
+w1_lengths_asked = (refl, refl, refl, refl, refl, refl)
 
 -- W9: n = 7, and bit 7 of any one of the 35 rows is set: 13. With no bit set, and with bit 6 of every row set, it passes.
 pub w9_set : map (λ (r : ℕ). ask_spare (spare_clear w1 (set_bit (replicate 35 0) (8 * r + 7))) accepted) (rising (λ (r : ℕ). true) 35) ≡ replicate 35 (refused 13 0)
@@ -39,7 +39,7 @@ w9_clear = (refl, refl)
 -- W9: n = 8, and no bit is spare, whatever the store holds.
 pub w9_none : (store : List ℕ) → ask_spare (spare_clear (atomic_concepts 8) store) accepted ≡ accepted
 unfolding ask ask_spare
-w9_none store = ap (λ (t : Bool). ask t 13 0 accepted) (no_spare (atomic_concepts 8) store (ap (λ (n : ℕ). n % 8) (atomic-count 8)))
+w9_none store = ap (λ (t : Bool). ask t 13 0 accepted) (no_spare (atomic_concepts 8) store (ap (λ (n : ℕ). n % 8) (atomic_count 8)))
 
 -- W1 has three axioms, and written with them it is W1 again.
 pub w1_axiom_count : axiom_count w1 (catalogue_axioms w1) ≡ 3

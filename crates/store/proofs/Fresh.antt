@@ -19,8 +19,8 @@ use Rattle.rules.specs.Rules.{Expression, fact, Closure}
 use Rattle.layout.specs.Layout.{shape_of, row_of}
 use Rattle.layout.specs.Parts.{width, used, held, row_count}
 use Rattle.store.specs.Fresh.{Marked, Fresh}
-use Rattle.layout.proofs.StoreSizes.{used-rows, some-width}
-use Rattle.layout.proofs.StoreRows.{bit-front, in_force_bit, held-bit, row_cases}
+use Rattle.layout.proofs.StoreSizes.{used_rows, some-width}
+use Rattle.layout.proofs.StoreRows.{bit_front, in_force_bit, held-bit, row_cases}
 
 -- Every bit of the used part is a bit of one of its rows.
 pub bit_in_row : (b : List ℕ) → WellFormed b → (i : ℕ) → i < 8 * used b → (r : ℕ) × (d : ℕ) × (r < row_count b) × (d < 8 * width b) × (i ≡ place (width b) r d)
@@ -32,7 +32,7 @@ bit_in_row b wf i h =
     let split : i / k * k + i % k ≡ i = div-add-mod' i k in
     let all : row_count b * k ≡ 8 * (row_count b * w) = mul_left_comm (row_count b) 8 w in
     let whole : i / k * k ≡ 8 * (i / k * w) = mul_left_comm (i / k) 8 w in
-    (i / k, i % k, (div-lt_iff_lt-mul some).1 (omega (arith, used-rows b)), mod-lt i some, omega arith)
+    (i / k, i % k, (div-lt_iff_lt-mul some).1 (omega (arith, used_rows b)), mod-lt i some, omega arith)
 
 -- Two stores that mark the same axioms and the same set have the same bits in each row.
 module _ (b : List ℕ) (F : Axioms) (S : Expression → Type 0) (xs ys : List ℕ) (p : Marked b F S xs) (q : Marked b F S ys) where
@@ -40,8 +40,8 @@ module _ (b : List ℕ) (F : Axioms) (S : Expression → Type 0) (xs ys : List �
   same_axiom c d lc ld =
       sym (in_force_bit b xs c d lc ld) ∙ p.axioms c d ∙ sym (q.axioms c d) ∙ in_force_bit b ys c d lc ld
 
-  same-held : (c g d : ℕ) → c < concepts b → g ≤ roles b → d < 8 * width b → bit xs (place (width b) (concepts b + row_of (shape_of b) c g) d) ≡ bit ys (place (width b) (concepts b + row_of (shape_of b) c g) d)
-  same-held c g d lc lg ld =
+  same_held : (c g d : ℕ) → c < concepts b → g ≤ roles b → d < 8 * width b → bit xs (place (width b) (concepts b + row_of (shape_of b) c g) d) ≡ bit ys (place (width b) (concepts b + row_of (shape_of b) c g) d)
+  same_held c g d lc lg ld =
       sym (held-bit b xs c g d lc lg ld)
       ∙ decides_agree (held b xs) (held b ys) S p.set q.set (fact c g d)
       ∙ held-bit b ys c g d lc lg ld
@@ -50,11 +50,11 @@ module _ (b : List ℕ) (F : Axioms) (S : Expression → Type 0) (xs ys : List �
   same_row r d lr ld =
       ⊎_elim
       (λ l. same_axiom r d l ld)
-      (λ (c, g, lc, lg, e). subst (λ r. bit xs (place (width b) r d) ≡ bit ys (place (width b) r d)) (sym e) (same-held c g d lc lg ld))
+      (λ (c, g, lc, lg, e). subst (λ r. bit xs (place (width b) r d) ≡ bit ys (place (width b) r d)) (sym e) (same_held c g d lc lg ld))
       (row_cases b r lr)
 
-used-bytes : (b : List ℕ) (F : Axioms) (S : Expression → Type 0) (store : List ℕ) → Marked b F S store → Bytes (take (used b) store)
-used-bytes b F S store p i =
+used_bytes : (b : List ℕ) (F : Axioms) (S : Expression → Type 0) (store : List ℕ) → Marked b F S store → Bytes (take (used b) store)
+used_bytes b F S store p i =
     elim (dec_lt i (used b)) [
       | yes l ↦ subst (λ x. x < 256) (sym (get_or-take (used b) store i 0 l)) (p.bytes i l)
       | no g ↦ subst (λ x. x < 256) (sym (get_or-eq_default (take (used b) store) 0 (omega (arith, length-take (used b) store)))) (lit< tt)
@@ -64,13 +64,13 @@ pub marked_unique : (b : List ℕ) (F : Axioms) (S : Expression → Type 0) (xs 
 marked_unique b F S xs ys wf p q =
     let lx = length-take-le (used b) xs p.long in
     let ly = length-take-le (used b) ys q.long in
-    same_bits (take (used b) xs) (take (used b) ys) (used-bytes b F S xs p) (used-bytes b F S ys q) (lx ∙ sym ly)
+    same_bits (take (used b) xs) (take (used b) ys) (used_bytes b F S xs p) (used_bytes b F S ys q) (lx ∙ sym ly)
     (λ i h.
     let l : i < 8 * used b = omega (arith, lx) in
     let (r, d, lr, ld, e) = bit_in_row b wf i l in
-    bit-front xs (used b) i l
+    bit_front xs (used b) i l
     ∙ subst (λ i. bit xs i ≡ bit ys i) (sym e) (same_row b F S xs ys p q r d lr ld)
-    ∙ sym (bit-front ys (used b) i l))
+    ∙ sym (bit_front ys (used b) i l))
 
 -- Two stores fresh for the same axioms have equal used parts.
 pub fresh_unique : (b : List ℕ) (F G : Axioms) (xs ys : List ℕ) → WellFormed b → ((c d : ℕ) → F c d ≡ G c d) → Fresh b F xs → Fresh b G ys → take (used b) xs ≡ take (used b) ys

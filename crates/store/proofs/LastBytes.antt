@@ -11,8 +11,8 @@ use lib.ListN.{get_or}
 use Rattle.rows.specs.Bits.{byte_bit, bit, place}
 use Rattle.rows.proofs.Bits.{bit_at}
 use Rattle.rows.proofs.ByteBits.{byte_bit-zero, byte_bit_ext, byte_bit_shift, byte_bit_past}
-use Rattle.rows.proofs.Counting.{some-none, none_below}
-use Rattle.rows.proofs.Lowest.{rest-clear}
+use Rattle.rows.proofs.Counting.{some_none, none_below}
+use Rattle.rows.proofs.Lowest.{rest_clear}
 use Rattle.booleans.proofs.Booleans.{by_bool}
 use Rattle.layout.specs.Parts.{set_from}
 
@@ -26,11 +26,11 @@ shifted_zero x s h clear =
     ∙ sym (byte_bit-zero k))
 
 module _ (w r i : ℕ) (rows : List ℕ) (below : i < 8 * w) (last : 8 * w ≤ i + 8) where
-  pub last-clear : get_or rows (r * w + i / 8) 0 / 2 ^ (i % 8) ≡ 0 → set_from w i rows r ≡ false
+  pub last_clear : get_or rows (r * w + i / 8) 0 / 2 ^ (i % 8) ≡ 0 → set_from w i rows r ≡ false
   unfolding set_from place
-  last-clear e =
-      some-none (λ k. bit rows (8 * (r * w) + (i + k))) (8 * w - i)
-      (λ k l. rest-clear rows (r * w + i / 8) (i % 8) (omega arith) e (8 * (r * w) + (i + k)) (omega arith) (omega arith))
+  last_clear e =
+      some_none (λ k. bit rows (8 * (r * w) + (i + k))) (8 * w - i)
+      (λ k l. rest_clear rows (r * w + i / 8) (i % 8) (omega arith) e (8 * (r * w) + (i + k)) (omega arith) (omega arith))
 
   pub last_set : get_or rows (r * w + i / 8) 0 < 256 → (get_or rows (r * w + i / 8) 0 / 2 ^ (i % 8) ≡ 0 → ⊥) → set_from w i rows r ≡ true
   unfolding set_from place

@@ -22,9 +22,9 @@ get_d_set_word b i x k h =
     get_or-set_other (set b i (x % 256)) (i + 1) k (x / 256) 0 (λ e. ⊎_elim (λ l. absurd (let z : ⊥ = omega arith in z)) (λ l. absurd (let z : ⊥ = omega arith in z)) h)
     ∙ get_or-set_other b i k (x % 256) 0 (λ e. ⊎_elim (λ l. absurd (let z : ⊥ = omega arith in z)) (λ l. absurd (let z : ⊥ = omega arith in z)) h)
 
-pub word-set-here : (b : List ℕ) (i x : ℕ) → i + 1 < length b → word (set_word b i x) i ≡ x
+pub word_set_here : (b : List ℕ) (i x : ℕ) → i + 1 < length b → word (set_word b i x) i ≡ x
 unfolding word set_word
-word-set-here b i x h =
+word_set_here b i x h =
     let low : get_or (set (set b i (x % 256)) (i + 1) (x / 256)) i 0 ≡ x % 256 =
     get_or-set_other (set b i (x % 256)) (i + 1) i (x / 256) 0 (λ e. omega arith) ∙ get_or-set_same b i (x % 256) 0 (omega arith)
     in
@@ -56,21 +56,21 @@ word-second xs ys n i e =
     ap₂ (λ (l h : ℕ). l + 256 * h) (at (n + i) i refl) (at (n + i + 1) (i + 1) (omega arith))
 
 -- A number past the first two bytes.
-pub word-later : (a0 a1 : ℕ) (xs : List ℕ) (i j : ℕ) → i ≡ suc (suc j) → word (a0 ∷ a1 ∷ xs) i ≡ word xs j
+pub word_later : (a0 a1 : ℕ) (xs : List ℕ) (i j : ℕ) → i ≡ suc (suc j) → word (a0 ∷ a1 ∷ xs) i ≡ word xs j
 unfolding word
-word-later a0 a1 xs i j e =
+word_later a0 a1 xs i j e =
     let s : i + 1 ≡ suc (suc (j + 1)) = omega arith in
     ap₂ (λ (l h : ℕ). get_or (a0 ∷ a1 ∷ xs) l 0 + 256 * get_or (a0 ∷ a1 ∷ xs) h 0) e s
 
 -- ---- axiom records
 
 word_next : (a0 a1 a2 a3 : ℕ) (xs : List ℕ) (i j : ℕ) → i ≡ suc (suc (suc (suc j))) → word (a0 ∷ a1 ∷ a2 ∷ a3 ∷ xs) i ≡ word xs j
-word_next a0 a1 a2 a3 xs i j e = word-later a0 a1 (a2 ∷ a3 ∷ xs) i (suc (suc j)) e ∙ word-later a2 a3 xs (suc (suc j)) j refl
+word_next a0 a1 a2 a3 xs i j e = word_later a0 a1 (a2 ∷ a3 ∷ xs) i (suc (suc j)) e ∙ word_later a2 a3 xs (suc (suc j)) j refl
 
-pub length-records : (n : ℕ) (ps : List ℕ) → length (bytes_of (sides_of n ps)) ≡ 4 * length ps
+pub length_records : (n : ℕ) (ps : List ℕ) → length (bytes_of (sides_of n ps)) ≡ 4 * length ps
 unfolding bytes_of sides_of
-length-records n [] = refl
-length-records n (p ∷ ps) = let e = length-records n ps in omega arith
+length_records n [] = refl
+length_records n (p ∷ ps) = let e = length_records n ps in omega arith
 
 pub left_record : (n : ℕ) (ps : List ℕ) (k : ℕ) → k < length ps → word (bytes_of (sides_of n ps)) (4 * k) ≡ get_or ps k 0 / n
 unfolding bytes_of sides_of word

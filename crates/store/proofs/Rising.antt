@@ -82,11 +82,11 @@ pub rising_fail : (test : ℕ → Bool) (k : ℕ) → test k ≡ false → risin
 unfolding rising
 rising_fail test k e = rw (e, rising)
 
-pub rising-lists : (test : ℕ → Bool) (k : ℕ) → Lists test k (rising test k)
+pub rising_lists : (test : ℕ → Bool) (k : ℕ) → Lists test k (rising test k)
 unfolding rising
-rising-lists test zero = none test
-rising-lists test (suc k) =
-    let f = rising-lists test k in
+rising_lists test zero = none test
+rising_lists test (suc k) =
+    let f = rising_lists test k in
     by_bool (test k)
     (λ e. subst (Lists test (suc k)) (sym (rising_pass test k e)) (listed test k (rising test k) f e))
     (λ e. subst (Lists test (suc k)) (sym (rising_fail test k e)) (skipped test k (rising test k) f e))
@@ -125,14 +125,14 @@ module _ (test : ℕ → Bool) (p : ℕ → ℕ) where
       ⊎_elim (λ s. sym s) (λ h. absurd (let z : ⊥ = omega (arith, f.rises i h, f.below (suc i) h) in z))
       (eq-or-lt_of_le l)
 
-  rising-below : (k i : ℕ) → p i ≡ k → Indexed test (suc k) (suc i) p → (j : ℕ) (d : ℕ) → i ≡ suc (j + d) → p j < k
-  rising-below k i e f j zero s = let r = f.rises j (omega arith) in subst (λ x. p j < x) (ap p (let z : suc j ≡ i = omega arith in z) ∙ e) r
-  rising-below k i e f j (suc d) s = let r = f.rises j (omega arith) in let h = rising-below k i e f (suc j) d (omega arith) in omega arith
+  rising_below : (k i : ℕ) → p i ≡ k → Indexed test (suc k) (suc i) p → (j : ℕ) (d : ℕ) → i ≡ suc (j + d) → p j < k
+  rising_below k i e f j zero s = let r = f.rises j (omega arith) in subst (λ x. p j < x) (ap p (let z : suc j ≡ i = omega arith in z) ∙ e) r
+  rising_below k i e f j (suc d) s = let r = f.rises j (omega arith) in let h = rising_below k i e f (suc j) d (omega arith) in omega arith
 
   before : (k i : ℕ) → p i ≡ k → Indexed test (suc k) (suc i) p → Indexed test k i p
   before k i e f =
       record {
-        below = λ j l. rising-below k i e f j (i - suc j) (omega arith);
+        below = λ j l. rising_below k i e f j (i - suc j) (omega arith);
         passes = λ j l. f.passes j (omega arith);
         rises = λ j l. f.rises j (omega arith);
         all = λ q l t.
@@ -164,5 +164,5 @@ indexed_unique test p p' (suc k) a a' f f' =
     (λ e. indexed_unique test p p' k a a' (without test p k a e f) (without test p' k a' e f'))
 
 -- As many as are counted.
-pub count-indexed : (test : ℕ → Bool) (p : ℕ → ℕ) (k a : ℕ) → Indexed test k a p → count_below test k ≡ a
-count-indexed test p k a f = sym (length-rising test k) ∙ (indexed_unique test (λ i. get_or (rising test k) i 0) p k (length (rising test k)) a (rising-lists test k) f).0
+pub count_indexed : (test : ℕ → Bool) (p : ℕ → ℕ) (k a : ℕ) → Indexed test k a p → count_below test k ≡ a
+count_indexed test p k a f = sym (length-rising test k) ∙ (indexed_unique test (λ i. get_or (rising test k) i 0) p k (length (rising test k)) a (rising_lists test k) f).0

@@ -15,7 +15,7 @@ use Rattle.structure.specs.Reach.{Reach, here, up}
 use Rattle.rules.specs.Axioms.{Axioms, InRange}
 use Rattle.rules.specs.Occurrence.{Marking, Occurs, atomic, left_side, right_side, part, occurs}
 use Rattle.rules.specs.Rules.{Expression, pair, link, Inference, rule1, rule2, rule3, rule4_first, rule4_second, rule5, rule6, rule7, rule8, premise, conclusion, Allows, Derived, Closure}
-use Rattle.rules.proofs.Occurrence.{occurs-below, exact_unique, occurs-exact}
+use Rattle.rules.proofs.Occurrence.{occurs_below, exact_unique, occurs_exact}
 use Rattle.rules.proofs.Rules.{Kind, allows_rule1, allows_rule2, allows_rule3, allows_rule4_first, allows_rule4_second, allows_rule5, allows_rule6, allows_rule7, allows_rule8}
 use Rattle.layout.specs.declared.Shape.{Shape}
 use Rattle.layout.specs.Layout.{shape_of, table, marks, table_length, block_length}
@@ -26,22 +26,22 @@ use Rattle.store.proofs.Written.{written_same, written_well_formed}
 
 pub same_sym : (b b' : List ℕ) → SameRecords b b' → SameRecords b' b
 same_sym b b' m =
-    let n = m.concepts-same in
-    let h = m.inclusions-same in
-    let k = m.compositions-same in
+    let n = m.concepts_same in
+    let h = m.inclusions_same in
+    let k = m.compositions_same in
     record {
-      concepts-same = sym n;
-      roles-same = sym m.roles-same;
-      inclusions-same = sym h;
-      compositions-same = sym k;
-      kind-same = λ i l. sym (m.kind-same i (omega arith));
-      first-same = λ i l. sym (m.first-same i (omega arith));
-      second-same = λ i l. sym (m.second-same i (omega arith));
+      concepts_same = sym n;
+      roles_same = sym m.roles_same;
+      inclusions_same = sym h;
+      compositions_same = sym k;
+      kind_same = λ i l. sym (m.kind_same i (omega arith));
+      first_same = λ i l. sym (m.first_same i (omega arith));
+      second_same = λ i l. sym (m.second_same i (omega arith));
       within_same = λ i l. sym (m.within_same i (omega arith));
-      around-same = λ i l. sym (m.around-same i (omega arith));
-      role1-same = λ i l. sym (m.role1-same i (omega arith));
-      role2-same = λ i l. sym (m.role2-same i (omega arith));
-      result-same = λ i l. sym (m.result-same i (omega arith));
+      around_same = λ i l. sym (m.around_same i (omega arith));
+      role1_same = λ i l. sym (m.role1_same i (omega arith));
+      role2_same = λ i l. sym (m.role2_same i (omega arith));
+      result_same = λ i l. sym (m.result_same i (omega arith));
     }
 
 -- ---- what the rules read
@@ -51,33 +51,33 @@ module _ (b b' : List ℕ) (m : SameRecords b b') where
   reach_same here = here
   reach_same (up {s} k l h) =
       subst (λ r. Reach b' r s) (m.within_same k l)
-      (up k (subst (λ n. k < n) (sym m.inclusions-same) l) (subst (λ r. Reach b' r s) (sym (m.around-same k l)) (reach_same h)))
+      (up k (subst (λ n. k < n) (sym m.inclusions_same) l) (subst (λ r. Reach b' r s) (sym (m.around_same k l)) (reach_same h)))
 
   part_same : {i j : ℕ} → i < concepts b → Part b i j → Part b' i j
-  part_same {i} l (first_conjunct e) = subst (Part b' i) (m.first-same i l) (first_conjunct (m.kind-same i l ∙ e))
-  part_same {i} l (second_conjunct e) = subst (Part b' i) (m.second-same i l) (second_conjunct (m.kind-same i l ∙ e))
-  part_same {i} l (filler e) = subst (Part b' i) (m.second-same i l) (filler (m.kind-same i l ∙ e))
+  part_same {i} l (first_conjunct e) = subst (Part b' i) (m.first_same i l) (first_conjunct (m.kind_same i l ∙ e))
+  part_same {i} l (second_conjunct e) = subst (Part b' i) (m.second_same i l) (second_conjunct (m.kind_same i l ∙ e))
+  part_same {i} l (filler e) = subst (Part b' i) (m.second_same i l) (filler (m.kind_same i l ∙ e))
 
-  kind-there : (k x : ℕ) → Kind b k x → Kind b' k x
-  kind-there k x h = (subst (λ n. x < n) (sym m.concepts-same) h.0, m.kind-same x h.0 ∙ h.1)
+  kind_there : (k x : ℕ) → Kind b k x → Kind b' k x
+  kind_there k x h = (subst (λ n. x < n) (sym m.concepts_same) h.0, m.kind_same x h.0 ∙ h.1)
 
-  occurs-there : (F : Axioms) → WellFormed b → InRange b F → {c : ℕ} → Occurs b F c → Occurs b' F c
-  occurs-there F wf range (atomic {c} a) = atomic (kind-there 0 c a)
-  occurs-there F wf range (left_side f) = left_side f
-  occurs-there F wf range (right_side f) = right_side f
-  occurs-there F wf range (part {i} o p) = part (occurs-there F wf range o) (part_same (occurs-below b F wf range i o) p)
+  occurs_there : (F : Axioms) → WellFormed b → InRange b F → {c : ℕ} → Occurs b F c → Occurs b' F c
+  occurs_there F wf range (atomic {c} a) = atomic (kind_there 0 c a)
+  occurs_there F wf range (left_side f) = left_side f
+  occurs_there F wf range (right_side f) = right_side f
+  occurs_there F wf range (part {i} o p) = part (occurs_there F wf range o) (part_same (occurs_below b F wf range i o) p)
 
   pub range_same : (F : Axioms) → InRange b F → InRange b' F
-  range_same F range c d f = let r = range c d f in (subst (λ n. c < n) (sym m.concepts-same) r.0, subst (λ n. d < n) (sym m.concepts-same) r.1)
+  range_same F range c d f = let r = range c d f in (subst (λ n. c < n) (sym m.concepts_same) r.0, subst (λ n. d < n) (sym m.concepts_same) r.1)
 
 -- What occurs.
-pub occurs-same : (b b' : List ℕ) (F : Axioms) → SameRecords b b' → WellFormed b → WellFormed b' → InRange b F → occurs b F ≡ occurs b' F
-occurs-same b b' F m wf wf' range =
-    let exact = occurs-exact b F wf range in
+pub occurs_same : (b b' : List ℕ) (F : Axioms) → SameRecords b b' → WellFormed b → WellFormed b' → InRange b F → occurs b F ≡ occurs b' F
+occurs_same b b' F m wf wf' range =
+    let exact = occurs_exact b F wf range in
     let range' = range_same b b' m F range in
-    let exact' = occurs-exact b' F wf' range' in
+    let exact' = occurs_exact b' F wf' range' in
     exact_unique b F (occurs b F) (occurs b' F) exact
-    (λ c. (λ e. occurs-there b' b (same_sym b b' m) F wf' range' ((exact' c).0 e), λ o. (exact' c).1 (occurs-there b b' m F wf range o)))
+    (λ c. (λ e. occurs_there b' b (same_sym b b' m) F wf' range' ((exact' c).0 e), λ o. (exact' c).1 (occurs_there b b' m F wf range o)))
 
 -- ---- the least set
 
@@ -98,43 +98,43 @@ module _ (b b' : List ℕ) (F : Axioms) (O : Marking) (m : SameRecords b b') whe
   same_inference (rule1 c) a = record { allows = (allows_rule1 b' F O c).1 ((allows_rule1 b F O c).0 a); concludes = refl; premises = λ p. refl }
   same_inference (rule2 c t) a =
       let h = (allows_rule2 b F O c t).0 a in
-      record { allows = (allows_rule2 b' F O c t).1 (kind-there b b' m 1 t h.0, h.1, h.2); concludes = refl; premises = λ p. refl }
+      record { allows = (allows_rule2 b' F O c t).1 (kind_there b b' m 1 t h.0, h.1, h.2); concludes = refl; premises = λ p. refl }
   same_inference (rule3 c d e) a = record { allows = (allows_rule3 b' F O c d e).1 ((allows_rule3 b F O c d e).0 a); concludes = refl; premises = λ p. refl }
   same_inference (rule4_first c x) a =
       let k = (allows_rule4_first b F O c x).0 a in
-      record { allows = (allows_rule4_first b' F O c x).1 (kind-there b b' m 2 x k); concludes = ap (pair c) (m.first-same x k.0); premises = λ p. refl }
+      record { allows = (allows_rule4_first b' F O c x).1 (kind_there b b' m 2 x k); concludes = ap (pair c) (m.first_same x k.0); premises = λ p. refl }
   same_inference (rule4_second c x) a =
       let k = (allows_rule4_second b F O c x).0 a in
-      record { allows = (allows_rule4_second b' F O c x).1 (kind-there b b' m 2 x k); concludes = ap (pair c) (m.second-same x k.0); premises = λ p. refl }
+      record { allows = (allows_rule4_second b' F O c x).1 (kind_there b b' m 2 x k); concludes = ap (pair c) (m.second_same x k.0); premises = λ p. refl }
   same_inference (rule5 c x) a =
       let h = (allows_rule5 b F O c x).0 a in
       let l = h.0.0 in
       record {
-        allows = (allows_rule5 b' F O c x).1 (kind-there b b' m 2 x h.0, h.1);
+        allows = (allows_rule5 b' F O c x).1 (kind_there b b' m 2 x h.0, h.1);
         concludes = refl;
-        premises = each (premise b' (rule5 c x)) (premise b (rule5 c x)) (ap (pair c) (m.first-same x l)) (λ p. ap (pair c) (m.second-same x l));
+        premises = each (premise b' (rule5 c x)) (premise b (rule5 c x)) (ap (pair c) (m.first_same x l)) (λ p. ap (pair c) (m.second_same x l));
       }
   same_inference (rule6 e x) a =
       let k = (allows_rule6 b F O e x).0 a in
-      record { allows = (allows_rule6 b' F O e x).1 (kind-there b b' m 3 x k); concludes = ap₂ (link e) (m.first-same x k.0) (m.second-same x k.0); premises = λ p. refl }
+      record { allows = (allows_rule6 b' F O e x).1 (kind_there b b' m 3 x k); concludes = ap₂ (link e) (m.first_same x k.0) (m.second_same x k.0); premises = λ p. refl }
   same_inference (rule7 e r c x) a =
       let h = (allows_rule7 b F O e r c x).0 a in
       let l = h.0.0 in
       record {
-        allows = (allows_rule7 b' F O e r c x).1 (kind-there b b' m 3 x h.0, h.1, subst (Reach b' r) (sym (m.first-same x l)) (reach_same b b' m h.2));
+        allows = (allows_rule7 b' F O e r c x).1 (kind_there b b' m 3 x h.0, h.1, subst (Reach b' r) (sym (m.first_same x l)) (reach_same b b' m h.2));
         concludes = refl;
-        premises = each (premise b' (rule7 e r c x)) (premise b (rule7 e r c x)) refl (λ p. ap (pair c) (m.second-same x l));
+        premises = each (premise b' (rule7 e r c x)) (premise b (rule7 e r c x)) refl (λ p. ap (pair c) (m.second_same x l));
       }
   same_inference (rule8 e r1 c r2 d k) a =
       let h = (allows_rule8 b F O e r1 c r2 d k).0 a in
       let l = h.0 in
       record {
         allows = (allows_rule8 b' F O e r1 c r2 d k).1 (
-          subst (λ n. k < n) (sym m.compositions-same) l,
-          subst (Reach b' r1) (sym (m.role1-same k l)) (reach_same b b' m h.1),
-          subst (Reach b' r2) (sym (m.role2-same k l)) (reach_same b b' m h.2),
+          subst (λ n. k < n) (sym m.compositions_same) l,
+          subst (Reach b' r1) (sym (m.role1_same k l)) (reach_same b b' m h.1),
+          subst (Reach b' r2) (sym (m.role2_same k l)) (reach_same b b' m h.2),
         );
-        concludes = ap (λ r. link e r d) (m.result-same k l);
+        concludes = ap (λ r. link e r d) (m.result_same k l);
         premises = each (premise b' (rule8 e r1 c r2 d k)) (premise b (rule8 e r1 c r2 d k)) refl (λ p. refl);
       }
 
@@ -145,7 +145,7 @@ module _ (b b' : List ℕ) (F : Axioms) (O : Marking) (m : SameRecords b b') whe
 
 pub closure_same : (b b' : List ℕ) (F : Axioms) → SameRecords b b' → WellFormed b → WellFormed b' → InRange b F → (e : Expression) → Closure b F e ↔ Closure b' F e
 closure_same b b' F m wf wf' range e =
-    let o = occurs-same b b' F m wf wf' range in (
+    let o = occurs_same b b' F m wf wf' range in (
       λ d. subst (λ (O : Marking). Derived b' F O e) o (derived_there b b' F (occurs b F) m d),
       λ d. subst (λ (O : Marking). Derived b F O e) (sym o) (derived_there b' b F (occurs b' F) (same_sym b b' m) d),
     )
@@ -155,11 +155,11 @@ closure_same b b' F m wf wf' range e =
 module _ (b b' : List ℕ) (m : SameRecords b b') where
   pub shape_same : shape_of b' ≡ shape_of b
   unfolding shape_of
-  shape_same = λ i. record { concepts = m.concepts-same i; roles = m.roles-same i; width = (m.concepts-same i + 7) / 8 }
+  shape_same = λ i. record { concepts = m.concepts_same i; roles = m.roles_same i; width = (m.concepts_same i + 7) / 8 }
 
-  pub used-same : used b' ≡ used b
+  pub used_same : used b' ≡ used b
   unfolding used width
-  used-same = ap₂ (λ (n r : ℕ). n * ((n + 7) / 8) * (r + 2)) m.concepts-same m.roles-same
+  used_same = ap₂ (λ (n r : ℕ). n * ((n + 7) / 8) * (r + 2)) m.concepts_same m.roles_same
 
   in_force_same : (store : List ℕ) → in_force b' store ≡ in_force b store
   unfolding in_force axiom_rows
@@ -169,32 +169,32 @@ module _ (b b' : List ℕ) (m : SameRecords b b') where
   unfolding held set_rows
   held_same store = ap (λ (s : Shape). marks s (take (block_length s) (drop (table_length s) store))) shape_same
 
-  spare-same : (store : List ℕ) → spare_clear b' store ≡ spare_clear b store
+  spare_same : (store : List ℕ) → spare_clear b' store ≡ spare_clear b store
   unfolding spare_clear row_count width
-  spare-same store = ap₂ (λ (n r : ℕ). not (some_below (set_from ((n + 7) / 8) n store) (n * (r + 2)))) m.concepts-same m.roles-same
+  spare_same store = ap₂ (λ (n r : ℕ). not (some_below (set_from ((n + 7) / 8) n store) (n * (r + 2)))) m.concepts_same m.roles_same
 
-pub marked-same : (b b' : List ℕ) (F : Axioms) (S T : Expression → Type 0) (store : List ℕ) → SameRecords b b' → ((e : Expression) → S e ↔ T e) → Marked b F S store → Marked b' F T store
-marked-same b b' F S T store m st p =
-    let u = used-same b b' m in
+pub marked_same : (b b' : List ℕ) (F : Axioms) (S T : Expression → Type 0) (store : List ℕ) → SameRecords b b' → ((e : Expression) → S e ↔ T e) → Marked b F S store → Marked b' F T store
+marked_same b b' F S T store m st p =
+    let u = used_same b b' m in
     record {
       long = subst (λ n. n ≤ length store) (sym u) p.long;
       axioms = λ c d. ap (λ (G : Axioms). G c d) (in_force_same b b' m store) ∙ p.axioms c d;
       set = λ e.
           let h = ap (λ (t : Expression → Bool). t e) (held_same b b' m store) in
           (λ x. (st e).0 ((p.set e).0 (sym h ∙ x)), λ t. h ∙ (p.set e).1 ((st e).1 t));
-      spare = spare-same b b' m store ∙ p.spare;
+      spare = spare_same b b' m store ∙ p.spare;
       bytes = λ i l. p.bytes i (subst (λ n. i < n) u l);
     }
 
 -- Classified afresh from F with one of them or with the other: it is the same.
-pub fresh-same : (b b' : List ℕ) (F : Axioms) (store : List ℕ) → SameRecords b b' → WellFormed b → WellFormed b' → InRange b F → Fresh b F store ↔ Fresh b' F store
-fresh-same b b' F store m wf wf' range =
+pub fresh_same : (b b' : List ℕ) (F : Axioms) (store : List ℕ) → SameRecords b b' → WellFormed b → WellFormed b' → InRange b F → Fresh b F store ↔ Fresh b' F store
+fresh_same b b' F store m wf wf' range =
     let c = closure_same b b' F m wf wf' range in (
-      marked-same b b' F (Closure b F) (Closure b' F) store m c,
-      marked-same b' b F (Closure b' F) (Closure b F) store (same_sym b b' m) (λ e. ((c e).1, (c e).0)),
+      marked_same b b' F (Closure b F) (Closure b' F) store m c,
+      marked_same b' b F (Closure b' F) (Closure b F) store (same_sym b b' m) (λ e. ((c e).1, (c e).0)),
     )
 
 -- So with the catalogue that has F as its axioms.
-pub fresh-written : (b : List ℕ) (F : Axioms) (store : List ℕ) → WellFormed b → InRange b F → axiom_count b F ≤ 4096 → Fresh b F store ↔ Fresh (written b F) F store
-fresh-written b F store wf range few =
-    fresh-same b (written b F) F store (written_same b F wf) wf (written_well_formed b F wf few) range
+pub fresh_written : (b : List ℕ) (F : Axioms) (store : List ℕ) → WellFormed b → InRange b F → axiom_count b F ≤ 4096 → Fresh b F store ↔ Fresh (written b F) F store
+fresh_written b F store wf range few =
+    fresh_same b (written b F) F store (written_same b F wf) wf (written_well_formed b F wf few) range

@@ -13,10 +13,10 @@ use Rattle.layout.specs.Parts.{held}
 use Rattle.store.specs.Fresh.{Fresh}
 use Rattle.store.specs.Says.{says}
 
-pub says-pair : (b store : List ℕ) (c d : ℕ) → says b store c d ≡ held b store (pair c d)
+pub says_pair : (b store : List ℕ) (c d : ℕ) → says b store c d ≡ held b store (pair c d)
 unfolding says
-says-pair b store c d = refl
+says_pair b store c d = refl
 
-pub says-fresh : (b : List ℕ) (F : Axioms) (store : List ℕ) → Fresh b F store → (c d : ℕ) → (says b store c d ≡ true) ↔ Says b F c d
+pub says_fresh : (b : List ℕ) (F : Axioms) (store : List ℕ) → Fresh b F store → (c d : ℕ) → (says b store c d ≡ true) ↔ Says b F c d
 unfolding says
-says-fresh b F store fresh c d = Iff.trans (fresh.set (pair c d)) (Iff.symm (says_closure b F c d))
+says_fresh b F store fresh c d = Iff.trans (fresh.set (pair c d)) (Iff.symm (says_closure b F c d))

@@ -15,14 +15,14 @@ use Rattle.catalogue.specs.Records.{left, right}
 use Rattle.catalogue.specs.Outcome.{accepted}
 use Rattle.catalogue.specs.Checks.{checked}
 use Rattle.catalogue.specs.WellFormed.{WellFormed}
-use Rattle.catalogue.proofs.Accepted.{accepted_well_formed, accepted-total}
+use Rattle.catalogue.proofs.Accepted.{accepted_well_formed, accepted_total}
 use Rattle.rules.specs.Axioms.{Axioms, catalogue_axioms}
 use Rattle.rules.proofs.Axioms.{catalogue_in_range}
 use Rattle.store.specs.Written.{numbered, axiom_count, written}
 use Rattle.store.proofs.Rising.{Indexed, indexed_unique}
 use Rattle.store.proofs.Written.{number-left, number-right, word_kept, written-total, written_count, length-written, written_same, written_well_formed, written-axioms}
-use Rattle.store.proofs.WrittenBytes.{written-bytes}
-use Rattle.store.proofs.AxiomCounts.{catalogue-indexed, catalogue-count}
+use Rattle.store.proofs.WrittenBytes.{written_bytes}
+use Rattle.store.proofs.AxiomCounts.{catalogue_indexed, catalogue_count}
 
 -- ---- numbers, two bytes each
 
@@ -49,13 +49,13 @@ module _ (b w : List ℕ) (wf : WellFormed b) (ww : WellFormed w) (same : concep
   records : Indexed (numbered (concepts b) (catalogue_axioms b)) (concepts b * concepts b) (axioms w) (λ k. left w k * concepts b + right w k)
   records =
       subst (λ (F : Axioms). Indexed (numbered (concepts b) F) (concepts b * concepts b) (axioms w) (λ k. left w k * concepts b + right w k)) own
-      (subst (λ (n : ℕ). Indexed (numbered n (catalogue_axioms w)) (n * n) (axioms w) (λ k. left w k * n + right w k)) same (catalogue-indexed w ww))
+      (subst (λ (n : ℕ). Indexed (numbered n (catalogue_axioms w)) (n * n) (axioms w) (λ k. left w k * n + right w k)) same (catalogue_indexed w ww))
 
   same_number : (k : ℕ) → k < axioms b → left b k * concepts b + right b k ≡ left w k * concepts b + right w k
-  same_number = (indexed_unique _ _ _ _ _ _ (catalogue-indexed b wf) records).1
+  same_number = (indexed_unique _ _ _ _ _ _ (catalogue_indexed b wf) records).1
 
-  sides-same : (k : ℕ) → k < axioms b → k < axioms w → (left w k ≡ left b k) × (right w k ≡ right b k)
-  sides-same k l lw =
+  sides_same : (k : ℕ) → k < axioms b → k < axioms w → (left w k ≡ left b k) × (right w k ≡ right b k)
+  sides_same k l lw =
       let e = same_number k l in
       let r = (wf.sides k l).1 in
       let below : right w k < concepts b = omega (arith, (ww.sides k lw).1) in (
@@ -70,30 +70,30 @@ module _ (b : List ℕ) (wf : WellFormed b) where
   own = written b (catalogue_axioms b)
 
   few : axiom_count b (catalogue_axioms b) ≤ 4096
-  few = omega (arith, catalogue-count b wf, wf.axioms-limit)
+  few = omega (arith, catalogue_count b wf, wf.axioms_limit)
 
   own_well_formed : WellFormed own
   unfolding own
   own_well_formed = written_well_formed b (catalogue_axioms b) wf few
 
-  own-count : axioms own ≡ axioms b
+  own_count_lem : axioms own ≡ axioms b
   unfolding own
-  own-count = written_count b (catalogue_axioms b) wf ∙ catalogue-count b wf
+  own_count_lem = written_count b (catalogue_axioms b) wf ∙ catalogue_count b wf
 
-  own-long : length own ≡ length b
+  own_long : length own ≡ length b
   unfolding own
-  own-long = omega (arith, length-written b (catalogue_axioms b) wf, catalogue-count b wf, wf.whole)
+  own_long = omega (arith, length-written b (catalogue_axioms b) wf, catalogue_count b wf, wf.whole)
 
-  own-sides : (k : ℕ) → k < axioms b → (left own k ≡ left b k) × (right own k ≡ right b k)
+  own_sides : (k : ℕ) → k < axioms b → (left own k ≡ left b k) × (right own k ≡ right b k)
   unfolding own
-  own-sides k l =
-      sides-same b own wf own_well_formed (written_same b (catalogue_axioms b) wf).concepts-same
+  own_sides k l =
+      sides_same b own wf own_well_formed (written_same b (catalogue_axioms b) wf).concepts_same
       (fun_ext (λ c. fun_ext (λ d. written-axioms b (catalogue_axioms b) wf (catalogue_in_range b wf) c d)))
-      k l (omega (arith, own-count))
+      k l (omega (arith, own_count_lem))
 
   -- The axioms stand from the same byte on.
-  own-axioms-at : axioms_at own ≡ axioms_at b
-  own-axioms-at = omega (arith, own_well_formed.whole, own-long, own-count, wf.whole)
+  own_axioms_at : axioms_at own ≡ axioms_at b
+  own_axioms_at = omega (arith, own_well_formed.whole, own_long, own_count_lem, wf.whole)
 
   -- A number past the other records is a side of an axiom.
   in_record : (i : ℕ) → axioms_at b ≤ 2 * i → 2 * i < length b → (k : ℕ) × (k < axioms b) × ((2 * i ≡ axioms_at b + 4 * k) ⊎ (2 * i ≡ axioms_at b + 4 * k + 2))
@@ -108,18 +108,18 @@ module _ (b : List ℕ) (wf : WellFormed b) where
   unfolding left right
   side_own i low high =
       let (k, l, at) = in_record i low high in
-      let s = own-sides k l in
+      let s = own_sides k l in
       let from : (p q : ℕ) → 2 * i ≡ q → p ≡ q → word own p ≡ word b q → word own (2 * i) ≡ word b (2 * i) =
       λ p q e f w. ap (word own) (e ∙ sym f) ∙ w ∙ ap (word b) (sym e)
       in
       ⊎_elim
-      (λ e. from (axioms_at own + 4 * k) (axioms_at b + 4 * k) e (ap (λ (a : ℕ). a + 4 * k) own-axioms-at) s.0)
-      (λ e. from (axioms_at own + 4 * k + 2) (axioms_at b + 4 * k + 2) e (ap (λ (a : ℕ). a + 4 * k + 2) own-axioms-at) s.1)
+      (λ e. from (axioms_at own + 4 * k) (axioms_at b + 4 * k) e (ap (λ (a : ℕ). a + 4 * k) own_axioms_at) s.0)
+      (λ e. from (axioms_at own + 4 * k + 2) (axioms_at b + 4 * k + 2) e (ap (λ (a : ℕ). a + 4 * k + 2) own_axioms_at) s.1)
       at
 
   own-total : total b ≡ length b → total own ≡ total b
   unfolding own
-  own-total t = omega (arith, written-total b (catalogue_axioms b) wf, catalogue-count b wf, wf.whole)
+  own-total t = omega (arith, written-total b (catalogue_axioms b) wf, catalogue_count b wf, wf.whole)
 
   word-own : total b ≡ length b → (i : ℕ) → 2 * i < length own → word own (2 * i) ≡ word b (2 * i)
   unfolding total axioms own
@@ -130,10 +130,10 @@ module _ (b : List ℕ) (wf : WellFormed b) where
       elim (ℕ_discrete i 0) [
         | yes e ↦ at 0 e (own-total t)
         | no other0 ↦ elim (ℕ_discrete i 5) [
-          | yes e ↦ at 5 e own-count
+          | yes e ↦ at 5 e own_count_lem
           | no other5 ↦ elim (dec_lt (2 * i) (axioms_at b)) [
             | yes before ↦ word_kept b (catalogue_axioms b) wf (2 * i) (omega arith) (elim (dec_lt i 5) [ yes s ↦ inl (omega arith) | no g ↦ inr (omega arith) ]) (omega arith)
-            | no after ↦ side_own i (omega arith) (omega (arith, own-long))
+            | no after ↦ side_own i (omega arith) (omega (arith, own_long))
           ]
         ]
       ]
@@ -143,4 +143,4 @@ pub written_back : (b : List ℕ) → checked b ≡ accepted → Bytes b → wri
 unfolding own
 written_back b catalogue bytes =
     let wf : WellFormed b = accepted_well_formed catalogue in
-    same_words (own b wf) b (written-bytes b (catalogue_axioms b) wf (few b wf) bytes) bytes (own-long b wf) (word-own b wf (accepted-total b catalogue))
+    same_words (own b wf) b (written_bytes b (catalogue_axioms b) wf (few b wf) bytes) bytes (own_long b wf) (word-own b wf (accepted_total b catalogue))

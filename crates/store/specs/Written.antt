@@ -39,15 +39,15 @@ written b F =
 
 -- Two catalogues have the same records but for their axioms: what the rules read of them is the same.
 pub record SameRecords (b b' : List ℕ) : Type 0 where
-  pub concepts-same : concepts b' ≡ concepts b
-  pub roles-same : roles b' ≡ roles b
-  pub inclusions-same : inclusions b' ≡ inclusions b
-  pub compositions-same : compositions b' ≡ compositions b
-  pub kind-same : (i : ℕ) → i < concepts b → kind b' i ≡ kind b i
-  pub first-same : (i : ℕ) → i < concepts b → first b' i ≡ first b i
-  pub second-same : (i : ℕ) → i < concepts b → second b' i ≡ second b i
+  pub concepts_same : concepts b' ≡ concepts b
+  pub roles_same : roles b' ≡ roles b
+  pub inclusions_same : inclusions b' ≡ inclusions b
+  pub compositions_same : compositions b' ≡ compositions b
+  pub kind_same : (i : ℕ) → i < concepts b → kind b' i ≡ kind b i
+  pub first_same : (i : ℕ) → i < concepts b → first b' i ≡ first b i
+  pub second_same : (i : ℕ) → i < concepts b → second b' i ≡ second b i
   pub within_same : (k : ℕ) → k < inclusions b → within b' k ≡ within b k
-  pub around-same : (k : ℕ) → k < inclusions b → around b' k ≡ around b k
-  pub role1-same : (k : ℕ) → k < compositions b → role1 b' k ≡ role1 b k
-  pub role2-same : (k : ℕ) → k < compositions b → role2 b' k ≡ role2 b k
-  pub result-same : (k : ℕ) → k < compositions b → result b' k ≡ result b k
+  pub around_same : (k : ℕ) → k < inclusions b → around b' k ≡ around b k
+  pub role1_same : (k : ℕ) → k < compositions b → role1 b' k ≡ role1 b k
+  pub role2_same : (k : ℕ) → k < compositions b → role2 b' k ≡ role2 b k
+  pub result_same : (k : ℕ) → k < compositions b → result b' k ≡ result b k

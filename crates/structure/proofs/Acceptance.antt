@@ -19,4 +19,4 @@ verdict_well_formed v e a = accepted_well_formed (sym e ∙ ap outcome_of a)
 
 -- Every role of the catalogue has its place in the square.
 pub role_below : (b : List ℕ) {r : ℕ} → checked b ≡ accepted → r < roles b → r < 16
-role_below b e h = let w : WellFormed b = accepted_well_formed e in omega (arith, w.roles-limit)
+role_below b e h = let w : WellFormed b = accepted_well_formed e in omega (arith, w.roles_limit)

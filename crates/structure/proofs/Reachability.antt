@@ -18,8 +18,8 @@ pub transitive : {b : List ℕ} {r t s : ℕ} → Reach b r t → Reach b t s �
 transitive here q = q
 transitive (up k l p) q = up k l (transitive p q)
 
-pub of-inclusion : {b : List ℕ} (k : ℕ) → k < inclusions b → Reach b (within b k) (around b k)
-of-inclusion k l = up k l here
+pub of_inclusion : {b : List ℕ} (k : ℕ) → k < inclusions b → Reach b (within b k) (around b k)
+of_inclusion k l = up k l here
 
 -- Via b k r s: role r reaches role s with only roles below k between them.
 pub data Via (b : List ℕ) (k : ℕ) : ℕ → ℕ → Type 0 where
@@ -29,14 +29,14 @@ pub data Via (b : List ℕ) (k : ℕ) : ℕ → ℕ → Type 0 where
 
 pub via_reach : {b : List ℕ} {k r s : ℕ} → Via b k r s → Reach b r s
 via_reach same = here
-via_reach (one j l) = of-inclusion j l
+via_reach (one j l) = of_inclusion j l
 via_reach (join l p q) = transitive (via_reach p) (via_reach q)
 
 -- In a well-formed catalogue only roles below 16 stand between.
 pub reach_via : {b : List ℕ} {r s : ℕ} → WellFormed b → Reach b r s → Via b 16 r s
 reach_via w here = same
 reach_via {b} w (up k l p) =
-    let h : around b k < 16 = omega (arith, (w.inclusion k l).1, w.roles-limit) in
+    let h : around b k < 16 = omega (arith, (w.inclusion k l).1, w.roles_limit) in
     join h (one k l) (reach_via w p)
 
 -- With no role between, a role reaches itself and what it lies within.
@@ -101,8 +101,8 @@ joined x y z (inl e) = rw e
 joined x y z (inr (e, f)) = rw (e, f) (or-true x)
 
 -- One inclusion more.
-pub included-more : (b : List ℕ) (k r s : ℕ) → (Included b k r s ⊎ ((r ≡ within b k) × (s ≡ around b k))) ↔ Included b (k + 1) r s
-included-more b k r s = (to, from)
+pub included_more : (b : List ℕ) (k r s : ℕ) → (Included b k r s ⊎ ((r ≡ within b k) × (s ≡ around b k))) ↔ Included b (k + 1) r s
+included_more b k r s = (to, from)
   where
     to : Included b k r s ⊎ ((r ≡ within b k) × (s ≡ around b k)) → Included b (k + 1) r s
     to (inl (inl e)) = inl e
@@ -117,8 +117,8 @@ included-more b k r s = (to, from)
     from (inr (j, l, e, f)) = elim (ℕ_discrete j k) [ yes h ↦ inr (last j h e f) | no n ↦ inl (inr (j, omega (arith, l), e, f)) ]
 
 -- A Warshall step: one role more between.
-pub through-exact : (b : List ℕ) (k : ℕ) (square next : Square) → k < 16 → MarksExactly (Via b k) square → Through k square next → MarksExactly (Via b (k + 1)) next
-through-exact b k square next l m t = record { exact = λ r s h h'. (to r s h h', from r s h h') }
+pub through_exact : (b : List ℕ) (k : ℕ) (square next : Square) → k < 16 → MarksExactly (Via b k) square → Through k square next → MarksExactly (Via b (k + 1)) next
+through_exact b k square next l m t = record { exact = λ r s h h'. (to r s h h', from r s h h') }
   where
     to : (r s : ℕ) → r < 16 → s < 16 → mark next r s ≡ true → Via b (k + 1) r s
     to r s h h' e = (via_through b k r s).1

@@ -14,11 +14,11 @@ use Rattle.structure.specs.Square.{Square, mark, Sized, MarksExactly}
 abbrev pub blank : Square
 blank = replicate 16 (replicate 16 false)
 
-pub blank-sized : Sized blank
-blank-sized = record { rows = refl; row = λ r h. ap length (get_or-replicate 16 r (replicate 16 false) [] h) }
+pub blank_sized : Sized blank
+blank_sized = record { rows = refl; row = λ r h. ap length (get_or-replicate 16 r (replicate 16 false) [] h) }
 
-pub blank-exact : (P : ℕ → ℕ → Type 0) → ((r s : ℕ) → P r s → ⊥) → MarksExactly P blank
-blank-exact P f = record { exact = λ r s h k. (λ m. absurd (false≢true (sym (clear r s h k) ∙ m)), λ p. absurd (f r s p)) }
+pub blank_exact : (P : ℕ → ℕ → Type 0) → ((r s : ℕ) → P r s → ⊥) → MarksExactly P blank
+blank_exact P f = record { exact = λ r s h k. (λ m. absurd (false≢true (sym (clear r s h k) ∙ m)), λ p. absurd (f r s p)) }
   where
     clear : (r s : ℕ) → r < 16 → s < 16 → mark blank r s ≡ false
     clear r s h k = ap (λ (l : List Bool). get_or l s false) (get_or-replicate 16 r (replicate 16 false) [] h) ∙ get_or-replicate 16 s false false k
@@ -31,8 +31,8 @@ module _ (q : Square) (r s : ℕ) (z : Sized q) (h : r < 16) where
   row_put : get_or (put q r s) r [] ≡ set (get_or q r []) s true
   row_put = get_or-set_same q r (set (get_or q r []) s true) [] (rw z.rows h)
 
-  pub put-sized : Sized (put q r s)
-  put-sized = record { rows = length-set q r (set (get_or q r []) s true) ∙ z.rows; row = row }
+  pub put_sized : Sized (put q r s)
+  put_sized = record { rows = length-set q r (set (get_or q r []) s true) ∙ z.rows; row = row }
     where
       row : (x : ℕ) → x < 16 → length (get_or (put q r s) x []) ≡ 16
       row x l = elim (ℕ_discrete x r) [
@@ -40,8 +40,8 @@ module _ (q : Square) (r s : ℕ) (z : Sized q) (h : r < 16) where
         | no n ↦ ap length (get_or-set_other q r x (set (get_or q r []) s true) [] n) ∙ z.row x l
       ]
 
-  pub put-exact : (P : ℕ → ℕ → Type 0) → s < 16 → MarksExactly P q → MarksExactly (λ x y. P x y ⊎ ((x ≡ r) × (y ≡ s))) (put q r s)
-  put-exact P k m = record { exact = at }
+  pub put_exact : (P : ℕ → ℕ → Type 0) → s < 16 → MarksExactly P q → MarksExactly (λ x y. P x y ⊎ ((x ≡ r) × (y ≡ s))) (put q r s)
+  put_exact P k m = record { exact = at }
     where
       same_row : (x y : ℕ) → y < 16 → x ≡ r → (mark (put q r s) x y ≡ true) ↔ (P x y ⊎ ((x ≡ r) × (y ≡ s)))
       same_row x y l e = elim (ℕ_discrete y s) [

@@ -10,8 +10,8 @@ use Rattle.io.specs.Counts.{IsPrefixLen}
 use Rattle.text.specs.Text.{overwritten, Appended}
 
 -- A place within a buffer counts its first bytes.
-counts-within : (n : ℕ) (xs : List ℕ) → n ≤ length xs → IsPrefixLen n xs
-counts-within n xs h = (h, sym (length-take-le n xs h))
+counts_within : (n : ℕ) (xs : List ℕ) → n ≤ length xs → IsPrefixLen n xs
+counts_within n xs h = (h, sym (length-take-le n xs h))
 
 -- What stands before the place after a text.
 length_front : (out : List ℕ) (at : ℕ) (text : List ℕ) → at ≤ length out → length (take at out ++ text) ≡ at + length text
@@ -25,17 +25,17 @@ length-overwritten out at text h =
     omega (arith, length-append (take at out ++ text) (drop (at + length text) out), length-drop (at + length text) out)
 
 -- No text leaves the buffer.
-pub overwritten-nothing : (out : List ℕ) (at : ℕ) → overwritten out at [] ≡ out
+pub overwritten_nothing : (out : List ℕ) (at : ℕ) → overwritten out at [] ≡ out
 unfolding overwritten
-overwritten-nothing out at =
+overwritten_nothing out at =
     let none : at + 0 ≡ at = omega arith in
     ap₂ (λ (f : List ℕ) (k : ℕ). f ++ drop k out) (append-nil (take at out)) none ∙ take-append-drop at out
 
 -- A text copied to the front of the part from a place on.
-pub overwritten-part : (out : List ℕ) (at : ℕ) (text : List ℕ)
+pub overwritten_part : (out : List ℕ) (at : ℕ) (text : List ℕ)
     → take at out ++ ((take (length text) text ++ drop (length text) (take (length out - at) (drop at out))) ++ drop (length out - at) (drop at out)) ≡ overwritten out at text
 unfolding overwritten
-overwritten-part out at text =
+overwritten_part out at text =
     let part : List ℕ = drop at out in
     let k : ℕ = length out - at in
     let n : ℕ = length text in
@@ -63,13 +63,13 @@ overwritten-append out at s t h =
     ∙ ap (λ (f : List ℕ). f ++ drop (at + length (s ++ t)) out) (append_assoc (take at out) s t)
 
 pub appended_nothing : (out : List ℕ) (at : ℕ) → at ≤ length out → Appended [] out at at out
-appended_nothing out at h = record { ends = omega arith; bytes = sym (overwritten-nothing out at); counts = counts-within at out h }
+appended_nothing out at h = record { ends = omega arith; bytes = sym (overwritten_nothing out at); counts = counts_within at out h }
 
 -- A text that the buffer has room for.
 pub appended : (text out : List ℕ) (at place : ℕ) (after : List ℕ) → at + length text ≤ length out → place ≡ at + length text → after ≡ overwritten out at text → Appended text out at place after
 appended text out at place after h e w =
     let long : length after ≡ length out = ap length w ∙ length-overwritten out at text h in
-    record { ends = e; bytes = w; counts = counts-within place after (omega arith) }
+    record { ends = e; bytes = w; counts = counts_within place after (omega arith) }
 
 -- One text after another.
 pub appended_more : (s t out : List ℕ) (at place end : ℕ) (middle after : List ℕ) → at ≤ length out → Appended s out at place middle → Appended t middle place end after → Appended (s ++ t) out at end after

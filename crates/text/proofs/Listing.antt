@@ -18,32 +18,32 @@ use Rattle.text.proofs.Appending.{appended_nothing, appended_more}
 use Rattle.text.proofs.Decimals.{length-decimal, length-pair_line}
 
 -- A line of two concepts has at most 8 bytes.
-pub pair_line-most : (c d : ℕ) → c < 512 → d < 512 → length (pair_line c d) ≤ 8
-pair_line-most c d hc hd =
+pub pair_line_most : (c d : ℕ) → c < 512 → d < 512 → length (pair_line c d) ≤ 8
+pair_line_most c d hc hd =
     let c' : c < 1000 = omega arith in
     let d' : d < 1000 = omega arith in
     omega (arith, length-pair_line c d, length-decimal c 2 c', length-decimal d 2 d')
 
-named-most : (t : Bool) (line : List ℕ) → length line ≤ 8 → length (cond t line []) ≤ 8
-named-most true line h = h
-named-most false line h = omega arith
+named_most : (t : Bool) (line : List ℕ) → length line ≤ 8 → length (cond t line []) ≤ 8
+named_most true line h = h
+named_most false line h = omega arith
 
 module _ (b : List ℕ) (test : Expression → Bool) where
   -- No concept is named under itself.
-  named-itself : (c : ℕ) → named b test c c ≡ false
+  named_itself : (c : ℕ) → named b test c c ≡ false
   unfolding named
-  named-itself c =
+  named_itself c =
       ap (λ (t : Bool). eqb (kind b c) 0 && (eqb (kind b c) 0 && (not t && test (pair c c)))) (eq-eqb c c refl)
       ∙ ap (λ (t : Bool). eqb (kind b c) 0 && t) (and-false (eqb (kind b c) 0))
       ∙ and-false (eqb (kind b c) 0)
 
-  pub lines_below-most : (c k : ℕ) → c < 512 → k ≤ 512 → length (lines_below b test c k) ≤ 8 * k
+  pub lines_below_most : (c k : ℕ) → c < 512 → k ≤ 512 → length (lines_below b test c k) ≤ 8 * k
   unfolding lines_below
-  lines_below-most c zero hc hk = omega arith
-  lines_below-most c (suc d) hc hk =
+  lines_below_most c zero hc hk = omega arith
+  lines_below_most c (suc d) hc hk =
       let line : List ℕ = cond (named b test c d) (pair_line c d) [] in
-      let before : length (lines_below b test c d) ≤ 8 * d = lines_below-most c d hc (omega arith) in
-      let more : length line ≤ 8 = named-most (named b test c d) (pair_line c d) (pair_line-most c d hc (omega arith)) in
+      let before : length (lines_below b test c d) ≤ 8 * d = lines_below_most c d hc (omega arith) in
+      let more : length line ≤ 8 = named_most (named b test c d) (pair_line c d) (pair_line_most c d hc (omega arith)) in
       omega (arith, length-append (lines_below b test c d) line)
 
   -- Past the concept itself there is a line less.
@@ -56,12 +56,12 @@ module _ (b : List ℕ) (test : Expression → Bool) where
       elim (dec_lt c d) [
         | yes l ↦
             let before : length (lines_below b test c d) + 8 ≤ 8 * d = lines_below_past c d hc (omega arith) l in
-            let more : length line ≤ 8 = named-most (named b test c d) (pair_line c d) (pair_line-most c d hc (omega arith)) in
+            let more : length line ≤ 8 = named_most (named b test c d) (pair_line c d) (pair_line_most c d hc (omega arith)) in
             omega (arith, whole)
         | no g ↦
             let same : c ≡ d = omega arith in
-            let before : length (lines_below b test c d) ≤ 8 * d = lines_below-most c d hc (omega arith) in
-            let none : length line ≡ 0 = subst (λ (e : ℕ). length (cond (named b test c e) (pair_line c e) []) ≡ 0) same (ap (λ (t : Bool). length (cond t (pair_line c c) [])) (named-itself c)) in
+            let before : length (lines_below b test c d) ≤ 8 * d = lines_below_most c d hc (omega arith) in
+            let none : length line ≡ 0 = subst (λ (e : ℕ). length (cond (named b test c e) (pair_line c e) []) ≡ 0) same (ap (λ (t : Bool). length (cond t (pair_line c c) [])) (named_itself c)) in
             omega (arith, whole)
       ]
 
@@ -70,11 +70,11 @@ module _ (b : List ℕ) (test : Expression → Bool) where
   unfolding row_lines
   row_lines_most c hn hc = omega (arith, lines_below_past c (concepts b) (omega arith) hn hc)
 
-  pub rows_below-most : (k : ℕ) → concepts b ≤ 512 → k ≤ concepts b → length (rows_below b test k) ≤ 4088 * k
+  pub rows_below_most : (k : ℕ) → concepts b ≤ 512 → k ≤ concepts b → length (rows_below b test k) ≤ 4088 * k
   unfolding rows_below
-  rows_below-most zero hn hk = omega arith
-  rows_below-most (suc c) hn hk =
-      omega (arith, length-append (rows_below b test c) (row_lines b test c), rows_below-most c hn (omega arith), row_lines_most c hn (omega arith))
+  rows_below_most zero hn hk = omega arith
+  rows_below_most (suc c) hn hk =
+      omega (arith, length-append (rows_below b test c) (row_lines b test c), rows_below_most c hn (omega arith), row_lines_most c hn (omega arith))
 
   -- No lines, and those of one concept more: D in a row, C of the rows.
   module _ (out : List ℕ) (at : ℕ) (within : at ≤ length out) where

@@ -7,4 +7,4 @@ use Rattle.examples_001.proofs.Table as document_001
 use Rattle.worked_examples.specs.Table.{Worked}
 
 pub worked : Worked
-worked = record { W1-to-W6 = w1-w6.table; W1_moves = w1-moves.table; W7 = w7.table; W8_to_W10 = w8-w10.table; document_001 = document_001.table }
+worked = record { W1_to_W6 = w1-w6.table; W1_moves = w1-moves.table; W7 = w7.table; W8_to_W10 = w8-w10.table; document_001 = document_001.table }

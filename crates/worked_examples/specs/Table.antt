@@ -9,7 +9,7 @@ use Rattle.examples_001.specs.Table as document_001
 
 pub record Worked : Type 0 where
   -- W1: classify, row, listing, write. W2 and W4: lookups. W3, W5, W6: changes.
-  pub W1-to-W6 : w1-w6.Table
+  pub W1_to_W6 : w1-w6.Table
   -- W1: changes with both lists, and with empty ones; what is asked of the lists.
   pub W1_moves : w1-moves.Table
   -- W7: two pairs that hold each other up, and a move.

@@ -8,11 +8,11 @@ use borrow.Author.Tests.{le-leb, lt-leb}
 use Rattle.catalogue.specs.Outcome.{Outcome, accepted, ask}
 use Rattle.catalogue.specs.Checks.{checked}
 use Rattle.catalogue.proofs.Outcomes.{ask_yes, ask_no}
-use Rattle.catalogue.proofs.Passed.{after-accepted}
+use Rattle.catalogue.proofs.Passed.{after_accepted}
 use Rattle.rules.specs.Axioms.{Axioms}
 use Rattle.store.specs.Written.{axiom_count, written}
 use Rattle.store.specs.Fresh.{Fresh}
-use Rattle.store.proofs.Checks.{marked-axioms, marked-fits, marked-limit}
+use Rattle.store.proofs.Checks.{marked-axioms, marked_fits, marked_limit}
 use Rattle.writing.specs.Write.{output_fits, write_checks, ByOutcome, wrote, stays, Writes}
 use Rattle.writing.specs.declared.Wrote.{Wrote}
 use Rattle.writing.specs.declared.Wrote.TheVariants.{Length, Refused}
@@ -23,26 +23,26 @@ module _ (b : List ℕ) (F : Axioms) (store : List ℕ) (catalogue : checked b �
   asks : write_checks b store (length output) ≡ ask (leb (length (written b F)) (length output)) 20 0 accepted
   unfolding write_checks output_fits
   asks =
-      after-accepted b _ catalogue
-      ∙ asks_20 b store (length output) (marked-fits b F store fresh) fresh.spare (marked-limit b F store fresh few)
+      after_accepted b _ catalogue
+      ∙ asks_20 b store (length output) (marked_fits b F store fresh) fresh.spare (marked_limit b F store fresh few)
       ∙ ap (λ (G : Axioms). ask (leb (length (written b G)) (length output)) 20 0 accepted) (marked-axioms b F store fresh)
 
   outcome : {o : Outcome} {left : Wrote} {after : List ℕ} → write_checks b store (length output) ≡ o → ByOutcome b store output o left after → Writes b store output left after
   outcome {left = left} {after} e = subst (λ (o : Outcome). ByOutcome b store output o left after) (sym e)
 
   -- By the outcome of 20.
-  pub fresh-long : length (written b F) ≤ length output → Writes b store output (Length (length (written b F))) (written b F ++ drop (length (written b F)) output)
-  fresh-long l =
+  pub fresh_long : length (written b F) ≤ length output → Writes b store output (Length (length (written b F))) (written b F ++ drop (length (written b F)) output)
+  fresh_long l =
       outcome (asks ∙ ask_yes 20 0 accepted (le-leb _ _ l))
       (subst (λ (G : Axioms). ByOutcome b store output accepted (Length (length (written b G))) (written b G ++ drop (length (written b G)) output)) (marked-axioms b F store fresh) (wrote refl))
 
-  pub fresh-short : length output < length (written b F) → Writes b store output (Refused 20 0) output
-  fresh-short l = outcome (asks ∙ ask_no 20 0 accepted (lt-leb _ _ l)) stays
+  pub fresh_short : length output < length (written b F) → Writes b store output (Refused 20 0) output
+  fresh_short l = outcome (asks ∙ ask_no 20 0 accepted (lt-leb _ _ l)) stays
 
   -- And so of every exit that the contract allows.
   module _ (answer : Wrote) (output' : List ℕ) (w : Writes b store output answer output') where
-    pub writes-long : length (written b F) ≤ length output → (answer ≡ Length (length (written b F))) × (output' ≡ written b F ++ drop (length (written b F)) output)
-    writes-long l = by_outcome_unique b store output _ answer _ output' _ w (fresh-long l)
+    pub writes_long : length (written b F) ≤ length output → (answer ≡ Length (length (written b F))) × (output' ≡ written b F ++ drop (length (written b F)) output)
+    writes_long l = by_outcome_unique b store output _ answer _ output' _ w (fresh_long l)
 
     pub writes_short : length output < length (written b F) → (answer ≡ Refused 20 0) × (output' ≡ output)
-    writes_short l = by_outcome_unique b store output _ answer _ output' _ w (fresh-short l)
+    writes_short l = by_outcome_unique b store output _ answer _ output' _ w (fresh_short l)

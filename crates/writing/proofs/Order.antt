@@ -8,7 +8,7 @@ use lib.ListN.{length, drop}
 use Rattle.catalogue.specs.Outcome.{Outcome, accepted, refused, ask}
 use Rattle.catalogue.specs.Checks.{checked}
 use Rattle.catalogue.proofs.Outcomes.{ask_yes, ask_no, ask_past}
-use Rattle.catalogue.proofs.Passed.{after-accepted, after-refused}
+use Rattle.catalogue.proofs.Passed.{after_accepted, after_refused}
 use Rattle.layout.specs.Parts.{in_force, spare_clear}
 use Rattle.store.specs.Checks.{store_fits, axioms_in_limit, ask_store, ask_spare, ask_limit}
 use Rattle.store.specs.Written.{written}
@@ -51,19 +51,19 @@ module _ (b store output : List ℕ) where
     pub stops_20 : output_fits b store (length output) ≡ false → ByOutcome b store output (store_checks b store (length output)) (Refused 20 0) output
     stops_20 e = stopped 20 (asks_20 b store (length output) t u v ∙ ask_no 20 0 accepted e)
 
-    pub writes-all : output_fits b store (length output) ≡ true → (k : ℕ) (output' : List ℕ) → k ≡ length (written b (in_force b store)) → output' ≡ written b (in_force b store) ++ drop k output → ByOutcome b store output (store_checks b store (length output)) (Length k) output'
-    writes-all e k output' long is =
+    pub writes_all : output_fits b store (length output) ≡ true → (k : ℕ) (output' : List ℕ) → k ≡ length (written b (in_force b store)) → output' ≡ written b (in_force b store) ++ drop k output → ByOutcome b store output (store_checks b store (length output)) (Length k) output'
+    writes_all e k output' long is =
         subst (λ (o : Outcome). ByOutcome b store output o (Length k) output') (sym (asks_20 b store (length output) t u v ∙ ask_yes 20 0 accepted e))
         (subst (λ (j : ℕ). ByOutcome b store output accepted (Length j) output') (sym long)
         (wrote (is ∙ ap (λ (j : ℕ). written b (in_force b store) ++ drop j output) long)))
 
   -- Questions 1 to 9 first.
-  pub catalogue-first : (answer : Wrote) (output' : List ℕ) → checked b ≡ accepted → ByOutcome b store output (store_checks b store (length output)) answer output' → ByOutcome b store output (write_checks b store (length output)) answer output'
+  pub catalogue_first : (answer : Wrote) (output' : List ℕ) → checked b ≡ accepted → ByOutcome b store output (store_checks b store (length output)) answer output' → ByOutcome b store output (write_checks b store (length output)) answer output'
   unfolding write_checks
-  catalogue-first answer output' e h =
-      subst (λ (o : Outcome). ByOutcome b store output o answer output') (sym (after-accepted b (store_checks b store (length output)) e)) h
+  catalogue_first answer output' e h =
+      subst (λ (o : Outcome). ByOutcome b store output o answer output') (sym (after_accepted b (store_checks b store (length output)) e)) h
 
-  pub catalogue-refused : (number at : ℕ) → checked b ≡ refused number at → ByOutcome b store output (write_checks b store (length output)) (Refused number at) output
+  pub catalogue_refused : (number at : ℕ) → checked b ≡ refused number at → ByOutcome b store output (write_checks b store (length output)) (Refused number at) output
   unfolding write_checks
-  catalogue-refused number at e =
-      subst (λ (o : Outcome). ByOutcome b store output o (Refused number at) output) (sym (after-refused b (store_checks b store (length output)) e)) stays
+  catalogue_refused number at e =
+      subst (λ (o : Outcome). ByOutcome b store output o (Refused number at) output) (sym (after_refused b (store_checks b store (length output)) e)) stays

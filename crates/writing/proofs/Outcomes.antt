@@ -11,7 +11,7 @@ pub answer_outcome : {b store output output' : List ℕ} {o : Outcome} (a : Wrot
 answer_outcome a (wrote e) = refl
 answer_outcome a stays = refl
 
-pub refused-keeps : {b store output output' : List ℕ} {o : Outcome} {number at : ℕ} (a : Wrote) → ByOutcome b store output o a output'
+pub refused_keeps : {b store output output' : List ℕ} {o : Outcome} {number at : ℕ} (a : Wrote) → ByOutcome b store output o a output'
     → outcome_of a ≡ refused number at → output' ≡ output
-refused-keeps a (wrote e) q = absurd (never_both _ refl q)
-refused-keeps a stays q = refl
+refused_keeps a (wrote e) q = absurd (never_both _ refl q)
+refused_keeps a stays q = refl

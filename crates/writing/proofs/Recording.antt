@@ -13,18 +13,18 @@ use Rattle.store.proofs.Rising.{rising_pass, rising_skip}
 use Rattle.store.proofs.Written.{number-left, number-right}
 use Rattle.rows.specs.Bits.{bit, count_below}
 use Rattle.rows.specs.Next.{NextBelow}
-use Rattle.rows.proofs.Counting.{count_pass, count_skip, count-up}
+use Rattle.rows.proofs.Counting.{count_pass, count_skip, count_up}
 use Rattle.writing.specs.Records.{Recorded, WritesRow}
 
-bytes-append : (xs ys : List ℕ) → bytes_of (xs ++ ys) ≡ bytes_of xs ++ bytes_of ys
+bytes_append : (xs ys : List ℕ) → bytes_of (xs ++ ys) ≡ bytes_of xs ++ bytes_of ys
 unfolding bytes_of
-bytes-append [] ys = refl
-bytes-append (x ∷ xs) ys = ap (λ (l : List ℕ). x % 256 ∷ x / 256 ∷ l) (bytes-append xs ys)
+bytes_append [] ys = refl
+bytes_append (x ∷ xs) ys = ap (λ (l : List ℕ). x % 256 ∷ x / 256 ∷ l) (bytes_append xs ys)
 
-sides-append : (n : ℕ) (ps qs : List ℕ) → sides_of n (ps ++ qs) ≡ sides_of n ps ++ sides_of n qs
+sides_append : (n : ℕ) (ps qs : List ℕ) → sides_of n (ps ++ qs) ≡ sides_of n ps ++ sides_of n qs
 unfolding sides_of
-sides-append n [] qs = refl
-sides-append n (p ∷ ps) qs = ap (λ (l : List ℕ). p / n ∷ p % n ∷ l) (sides-append n ps qs)
+sides_append n [] qs = refl
+sides_append n (p ∷ ps) qs = ap (λ (l : List ℕ). p / n ∷ p % n ∷ l) (sides_append n ps qs)
 
 -- Four elements written one after the other.
 take_four : (l : List ℕ) (i x y z v : ℕ) → suc (suc (suc i)) < length l → take (suc (suc (suc (suc i)))) (set (set (set (set l i x) (suc i) y) (suc (suc i)) z) (suc (suc (suc i))) v) ≡ take i l ++ (x ∷ y ∷ z ∷ v ∷ [])
@@ -69,8 +69,8 @@ recorded_more n test c d head out at l t h r =
           ∙ append_assoc head (bytes_of (sides_of n (rising test p))) (c % 256 ∷ c / 256 ∷ d % 256 ∷ d / 256 ∷ [])
           ∙ ap (λ (t : List ℕ). head ++ t)
           (ap (λ (t : List ℕ). bytes_of (sides_of n (rising test p)) ++ t) (sym sides)
-          ∙ sym (bytes-append (sides_of n (rising test p)) (sides_of n (p ∷ [])))
-          ∙ ap bytes_of (sym (sides-append n (rising test p) (p ∷ [])))
+          ∙ sym (bytes_append (sides_of n (rising test p)) (sides_of n (p ∷ [])))
+          ∙ ap bytes_of (sym (sides_append n (rising test p) (p ∷ [])))
           ∙ ap (λ (ps : List ℕ). bytes_of (sides_of n ps)) (sym list));
     }
 
@@ -99,9 +99,9 @@ shifted row n left test agree a b l none i p q =
     let there : left * n + d ≡ i = omega arith in
     ap test (sym there) ∙ agree d (omega arith) ∙ none d (omega arith) (omega arith)
 
-pub row-begins : (row : List ℕ) (n left : ℕ) (out : List ℕ) (start right : ℕ) → NextBelow row n 0 right → RowState row n left out start out start right
+pub row_begins : (row : List ℕ) (n left : ℕ) (out : List ℕ) (start right : ℕ) → NextBelow row n 0 right → RowState row n left out start out start right
 unfolding count_below
-row-begins row n left out start right f =
+row_begins row n left out start right f =
     record {
       long = refl;
       within = f.within;
@@ -137,7 +137,7 @@ row_goes_on row n left out₀ start out at right out' right' s l room e f =
 pub row_room : (row : List ℕ) (n left : ℕ) (out₀ : List ℕ) (start : ℕ) (out : List ℕ) (at right : ℕ) → RowState row n left out₀ start out at right → right < n → start + 4 * count_below (bit row) n ≤ length out₀ → at + 3 < length out
 row_room row n left out₀ start out at right s l room =
     let one : count_below (bit row) (suc right) ≡ suc (count_below (bit row) right) = count_pass (bit row) right (s.is_set l) in
-    let up : count_below (bit row) (suc right) ≤ count_below (bit row) n = count-up (bit row) (suc right) n (omega arith) in
+    let up : count_below (bit row) (suc right) ≤ count_below (bit row) n = count_up (bit row) (suc right) n (omega arith) in
     omega (arith, s.ends, s.long, one, up)
 
 pub row_ends : (row : List ℕ) (n left : ℕ) (out₀ : List ℕ) (start : ℕ) (out : List ℕ) (at right : ℕ) → RowState row n left out₀ start out at right → n ≤ right → WritesRow row n left out₀ start out at

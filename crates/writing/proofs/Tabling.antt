@@ -8,7 +8,7 @@ use native.Mathlib.Omega.{arith}
 use lib.ListN.{length, drop, length-take}
 use borrow.Rule.Slice.PartMut.{mid_of}
 use Rattle.rows.specs.Bits.{bit, count_below, place}
-use Rattle.rows.proofs.Counting.{count_add, count_ext, count-up}
+use Rattle.rows.proofs.Counting.{count_add, count_ext, count_up}
 use Rattle.rows.proofs.Places.{row_within}
 use Rattle.rows.proofs.RowParts.{span, row_read}
 use Rattle.store.specs.Written.{rising}
@@ -29,9 +29,9 @@ pub record TableState (rows : List ℕ) (n w : ℕ) (out₀ : List ℕ) (start :
   pub ends : at ≡ start + 4 * count_below (in_rows rows n w) (left * n)
   pub recorded : (test : ℕ → Bool) (head : List ℕ) → ((c d : ℕ) → c < n → d < n → test (c * n + d) ≡ bit rows (place w c d)) → Recorded n test 0 head out₀ start → Recorded n test (left * n) head out at
 
-pub table-begins : (rows : List ℕ) (n w : ℕ) (out : List ℕ) (start : ℕ) → TableState rows n w out start out start 0
+pub table_begins : (rows : List ℕ) (n w : ℕ) (out : List ℕ) (start : ℕ) → TableState rows n w out start out start 0
 unfolding count_below
-table-begins rows n w out start =
+table_begins rows n w out start =
     record {
       long = refl;
       within = omega arith;
@@ -43,22 +43,22 @@ module _ (rows : List ℕ) (n w : ℕ) (out₀ : List ℕ) (start : ℕ) (fits :
   row : ℕ → List ℕ
   row left = mid_of (left * w) ((left * w + w) - left * w) rows
 
-  row-bit : (left d : ℕ) → d < n → bit (row left) d ≡ bit rows (place w left d)
+  row_bit_lem : (left d : ℕ) → d < n → bit (row left) d ≡ bit rows (place w left d)
   unfolding row
-  row-bit left d l = row_read rows w left (left * w) (left * w + w) d (span w left) (omega (arith, fits.width_fits))
+  row_bit_lem left d l = row_read rows w left (left * w) (left * w + w) d (span w left) (omega (arith, fits.width_fits))
 
   -- The count of one row more.
   row_count : (left : ℕ) → count_below (in_rows rows n w) (left * n + n) ≡ count_below (in_rows rows n w) (left * n) + count_below (bit (row left)) n
   row_count left =
       count_add (in_rows rows n w) (left * n) n
       ∙ ap (λ (k : ℕ). count_below (in_rows rows n w) (left * n) + k)
-      (count_ext (λ (j : ℕ). in_rows rows n w (left * n + j)) (bit (row left)) n (λ d l. in_rows rows n w left d l ∙ sym (row-bit left d l)))
+      (count_ext (λ (j : ℕ). in_rows rows n w (left * n + j)) (bit (row left)) n (λ d l. in_rows rows n w left d l ∙ sym (row_bit_lem left d l)))
 
   module _ (out : List ℕ) (at left : ℕ) (s : TableState rows n w out₀ start out at left) (l : left < n) where
     room : at + 4 * count_below (bit (row left)) n ≤ length out
     room =
         let up : count_below (in_rows rows n w) (left * n + n) ≤ count_below (in_rows rows n w) (n * n) =
-        count-up (in_rows rows n w) (left * n + n) (n * n) (row_within n left n l)
+        count_up (in_rows rows n w) (left * n + n) (n * n) (row_within n left n l)
         in
         omega (arith, s.ends, s.long, fits.room, row_count left, up)
 
@@ -66,7 +66,7 @@ module _ (rows : List ℕ) (n w : ℕ) (out₀ : List ℕ) (start : ℕ) (fits :
     unfolding row
     row_fits =
         record {
-          row-short = omega (arith, length-take ((left * w + w) - left * w) (drop (left * w) rows), fits.width_small);
+          row_short = omega (arith, length-take ((left * w + w) - left * w) (drop (left * w) rows), fits.width_small);
           number_fits = omega (arith, fits.small);
           left_below = l;
           room = room;
@@ -85,12 +85,12 @@ module _ (rows : List ℕ) (n w : ℕ) (out₀ : List ℕ) (start : ℕ) (fits :
               omega (arith, f.ends, s.ends, counted);
           recorded = λ test head agree r.
               subst (λ (k : ℕ). Recorded n test k head out' at') (sym (next_row n left))
-              (f.recorded test head (λ d h. agree left d l h ∙ sym (row-bit left d h)) (s.recorded test head agree r));
+              (f.recorded test head (λ d h. agree left d l h ∙ sym (row_bit_lem left d h)) (s.recorded test head agree r));
         }
 
-  pub table-ends : (out : List ℕ) (at left : ℕ) → TableState rows n w out₀ start out at left → n ≤ left → WritesTable rows n w out₀ start out
+  pub table_ends : (out : List ℕ) (at left : ℕ) → TableState rows n w out₀ start out at left → n ≤ left → WritesTable rows n w out₀ start out
   unfolding rising
-  table-ends out at left s l =
+  table_ends out at left s l =
       let same : left ≡ n = omega (arith, s.within) in
       record {
         long = s.long;

@@ -10,7 +10,7 @@ use Rattle.rules.specs.Axioms.{catalogue_axioms}
 use Rattle.layout.specs.Parts.{in_force, spare_clear}
 use Rattle.store.specs.Written.{axiom_count, written}
 use Rattle.layout.proofs.StoreRows.{in_force_range}
-use Rattle.store.proofs.Written.{written-accepted, written-axioms}
+use Rattle.store.proofs.Written.{written_accepted, written-axioms}
 use Rattle.writing.specs.Write.{ByOutcome, wrote, stays}
 use Rattle.writing.specs.declared.Wrote.{Wrote}
 
@@ -20,9 +20,9 @@ by_outcome_unique b store output o answer answer' left left' (wrote e) (wrote f)
 by_outcome_unique b store output o answer answer' left left' stays stays = (refl, refl)
 
 -- What write gives is accepted by questions 1 to 9, and has exactly the axioms in force.
-pub written-again : (b store : List ℕ) → WellFormed b → spare_clear b store ≡ true → axiom_count b (in_force b store) ≤ 4096
+pub written_again : (b store : List ℕ) → WellFormed b → spare_clear b store ≡ true → axiom_count b (in_force b store) ≤ 4096
     → (checked (written b (in_force b store)) ≡ accepted) × ((c d : ℕ) → catalogue_axioms (written b (in_force b store)) c d ≡ in_force b store c d)
-written-again b store wf clear limit = (
-  written-accepted b (in_force b store) wf limit,
+written_again b store wf clear limit = (
+  written_accepted b (in_force b store) wf limit,
   written-axioms b (in_force b store) wf (in_force_range b store clear),
 )

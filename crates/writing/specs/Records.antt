@@ -13,7 +13,7 @@ pub record Recorded (n : ℕ) (test : ℕ → Bool) (p : ℕ) (head out : List �
 
 -- A row of right sides for one left side, and room for its records.
 pub record RowFits (row : List ℕ) (n left : ℕ) (out : List ℕ) (start : ℕ) : Type 0 where
-  pub row-short : length row ≤ 1048576
+  pub row_short : length row ≤ 1048576
   pub number_fits : n ≤ 65536
   pub left_below : left < n
   pub room : start + 4 * count_below (bit row) n ≤ length out
@@ -43,6 +43,6 @@ pub record WritesTable (rows : List ℕ) (n w : ℕ) (out : List ℕ) (start : �
 -- A catalogue and a store with no stray bit, the count of the axioms in force, and a space of exactly the length of what is written.
 pub record CatalogueFits (b store : List ℕ) (count : ℕ) (out : List ℕ) : Type 0 where
   pub clear : Clear b store
-  pub count-is : count ≡ axiom_count b (in_force b store)
+  pub count_is : count ≡ axiom_count b (in_force b store)
   pub limit : count ≤ 4096
   pub out_long : length out ≡ axioms_at b + 4 * count

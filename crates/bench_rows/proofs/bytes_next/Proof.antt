@@ -1,6 +1,6 @@
 -- `bench_rows::bytes_next` meets its contract: the place of what `bytewise::next` finds.
 use borrow.Author.Rules.{rules}
-use Rattle.bench_rows.proofs.Places.{place-answers}
+use Rattle.bench_rows.proofs.Places.{place_answers}
 use Rattle.bench_rows.proofs.bytes_next.Statement.{statement}
 use Rattle.bench_rows.proofs.bytes_next.Tie as tie
 
@@ -14,7 +14,7 @@ place-of-requires : tie.Need-place-of-requires
 place-of-requires c κs = search rules
 
 returns-2 : tie.Need-returns-2
-returns-2 c = place-answers _ _ _ _ c.before.before.if1.false c.place_of.ensures c.before.next.ensures
+returns-2 c = place_answers _ _ _ _ c.before.before.if1.false c.place_of.ensures c.before.next.ensures
 
 pub bytes_next_spec : {M : Type 1} → statement M
 bytes_next_spec = tie.close (tie.spec returns next-requires place-of-requires returns-2)

@@ -34,10 +34,10 @@ work-used-requires : tie.Need-work-used-requires
 work-used-requires c κs = well_formed c.before
 
 concepts-requires : tie.Need-concepts-requires
-concepts-requires c κs = let wf = well_formed c.before.before in omega (arith, wf.whole, wf.axioms-start, wf.compositions-start, wf.inclusions-start)
+concepts-requires c κs = let wf = well_formed c.before.before in omega (arith, wf.whole, wf.axioms_start, wf.compositions_start, wf.inclusions_start)
 
 mul-list : tie.Need-overflow-mul-list
-mul-list c = omega (arith, c.concepts.ensures, (well_formed c.before.before.before).concepts-limit)
+mul-list c = omega (arith, c.concepts.ensures, (well_formed c.before.before.before).concepts_limit)
 
 most-written-requires : tie.Need-most-written-requires
 most-written-requires c κs = well_formed c.before.before.before

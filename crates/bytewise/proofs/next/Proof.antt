@@ -7,7 +7,7 @@ use lib.Count.{count_trailing_zeros, trailing_le}
 use Rattle.rows.specs.Next.{next_bit}
 use Rattle.rows.specs.declared.Found.TheVariants.{At}
 use Rattle.rows.proofs.Bits.{bit_past}
-use Rattle.rows.proofs.Lowest.{next_in_byte, next_skip, next-none, rest-clear}
+use Rattle.rows.proofs.Lowest.{next_in_byte, next_skip, next_none, rest_clear}
 use borrow.Author.Rules.{rules}
 use Rattle.bytewise.proofs.next.Statement.{statement}
 use Rattle.bytewise.proofs.next.Tie as tie
@@ -15,7 +15,7 @@ use Rattle.bytewise.proofs.next.Tie as tie
 returns : tie.Need-returns
 returns c =
     let row = c.before.before.args.row.now in
-    sym (next-none row c.before.before.args.from (λ a p. bit_past row a (omega arith)))
+    sym (next_none row c.before.before.args.from (λ a p. bit_past row a (omega arith)))
 
 shared-slice-read-rest : tie.Need-shared-slice-read-rest
 shared-slice-read-rest c = search rules
@@ -62,7 +62,7 @@ returns-3 c =
     c.next-byte.ensures
     ∙ sym
     (next_skip row from (8 * (from / 8 + 1)) (omega arith)
-    (λ a p q. rest-clear row (from / 8) (from % 8) (omega arith) c.before.if2.false a (omega arith) (omega arith)))
+    (λ a p q. rest_clear row (from / 8) (from % 8) (omega arith) c.before.if2.false a (omega arith) (omega arith)))
 
 pub next_spec : {M : Type 1} → statement M
 next_spec =

@@ -8,7 +8,7 @@ use Rattle.rows.specs.Next.{next_bit}
 use Rattle.rows.specs.declared.Found.TheVariants.{At}
 use lib.Dec.{lit<}
 use Rattle.rows.proofs.Bits.{bit_past}
-use Rattle.rows.proofs.Lowest.{zero_byte, next_in_byte, next_skip, next-none}
+use Rattle.rows.proofs.Lowest.{zero_byte, next_in_byte, next_skip, next_none}
 use borrow.Author.Rules.{rules}
 use native.Mathlib.Omega.{arith}
 use lib.ListN.{length, get_or}
@@ -74,7 +74,7 @@ returns-2 : tie.Need-returns-2 invariant-loop decreases-loop
 returns-2 c =
     let row = c.before.before.args.row.now in
     sym
-    (next-none row (8 * c.before.before.args.from)
+    (next_none row (8 * c.before.before.args.from)
     (λ a p.
     elim (dec_lt a (8 * length row)) [
       | yes l ↦ zero_byte row (a / 8) (c.before.loop.invariant.1 (a / 8) (omega arith) (omega arith)) a refl

@@ -1,6 +1,6 @@
 -- `exports::girvotal_change` meets its contract.
 use Rattle.replies.proofs.Exporting.{exported_short, exported_long}
-use Rattle.replies.proofs.Refusals.{edit-fits}
+use Rattle.replies.proofs.Refusals.{edit_fits}
 use borrow.Author.Rules.{rules}
 use Rattle.exports.proofs.girvotal_change.Statement.{statement}
 use Rattle.exports.proofs.girvotal_change.Tie as tie
@@ -24,7 +24,7 @@ give-requires : tie.Need-give-requires
 give-requires c κs =
     let called = c.before.before.before.before.before.before.before.before.change in
     let long = c.before.before.before.before.before.before.before.before.before.before.before.before.before.is-short.ensures.long c.before.before.before.before.before.before.before.before.before.before.before.before.if1.false in
-    (long, rw c.change-reply.ensures (edit-fits called.result called.ensures))
+    (long, rw c.change-reply.ensures (edit_fits called.result called.ensures))
 
 same-length-2 : tie.Need-same-length-2
 same-length-2 c = search rules

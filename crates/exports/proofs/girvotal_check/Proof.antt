@@ -1,6 +1,6 @@
 -- `exports::girvotal_check` meets its contract.
 use Rattle.replies.proofs.Exporting.{exported_short, exported_long}
-use Rattle.replies.proofs.Refusals.{check-fits}
+use Rattle.replies.proofs.Refusals.{check_fits}
 use borrow.Author.Rules.{rules}
 use Rattle.exports.proofs.girvotal_check.Statement.{statement}
 use Rattle.exports.proofs.girvotal_check.Tie as tie
@@ -25,7 +25,7 @@ give-requires c κs =
     let called = c.before.before.measure in
     let q = c.before.before.before.before.before.before.before.before.args in
     let long = c.before.before.before.before.is-short.ensures.long c.before.before.before.if1.false in
-    (long, rw (c.check-reply.ensures, called.ensures) (check-fits q.catalogue.now))
+    (long, rw (c.check-reply.ensures, called.ensures) (check_fits q.catalogue.now))
 
 same-length-2 : tie.Need-same-length-2
 same-length-2 c = search rules

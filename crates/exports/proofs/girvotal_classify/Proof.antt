@@ -1,6 +1,6 @@
 -- `exports::girvotal_classify` meets its contract.
 use Rattle.replies.proofs.Exporting.{exported_short, exported_long}
-use Rattle.replies.proofs.Refusals.{classify-fits}
+use Rattle.replies.proofs.Refusals.{classify_fits}
 use borrow.Author.Rules.{rules}
 use Rattle.exports.proofs.girvotal_classify.Statement.{statement}
 use Rattle.exports.proofs.girvotal_classify.Tie as tie
@@ -24,7 +24,7 @@ give-requires : tie.Need-give-requires
 give-requires c κs =
     let called = c.before.before.before.before.before.before.classify in
     let long = c.before.before.before.before.before.before.before.before.before.before.is-short.ensures.long c.before.before.before.before.before.before.before.before.before.if1.false in
-    (long, rw c.classify-reply.ensures (classify-fits called.result called.ensures))
+    (long, rw c.classify-reply.ensures (classify_fits called.result called.ensures))
 
 same-length-2 : tie.Need-same-length-2
 same-length-2 c = search rules

@@ -1,6 +1,6 @@
 -- `exports::girvotal_list` meets its contract.
 use Rattle.replies.proofs.Exporting.{exported_short, exported_long}
-use Rattle.replies.proofs.Refusals.{list-fits}
+use Rattle.replies.proofs.Refusals.{list_fits_lem}
 use borrow.Author.Rules.{rules}
 use Rattle.exports.proofs.girvotal_list.Statement.{statement}
 use Rattle.exports.proofs.girvotal_list.Tie as tie
@@ -24,7 +24,7 @@ give-requires : tie.Need-give-requires
 give-requires c κs =
     let called = c.before.before.before.before.listing in
     let long = c.before.before.before.before.before.before.before.is-short.ensures.long c.before.before.before.before.before.before.if1.false in
-    (long, rw c.list-reply.ensures (list-fits called.result called.ensures))
+    (long, rw c.list-reply.ensures (list_fits_lem called.result called.ensures))
 
 same-length-2 : tie.Need-same-length-2
 same-length-2 c = search rules

@@ -1,6 +1,6 @@
 -- `exports::girvotal_lookup` meets its contract.
 use Rattle.replies.proofs.Exporting.{exported_short, exported_long}
-use Rattle.replies.proofs.Refusals.{lookup-fits}
+use Rattle.replies.proofs.Refusals.{lookup_fits}
 use borrow.Author.Rules.{rules}
 use Rattle.exports.proofs.girvotal_lookup.Statement.{statement}
 use Rattle.exports.proofs.girvotal_lookup.Tie as tie
@@ -25,7 +25,7 @@ give-requires c κs =
     let called = c.before.before.lookup in
     let q = c.before.before.before.before.before.before.before.before.before.args in
     let long = c.before.before.before.before.is-short.ensures.long c.before.before.before.if1.false in
-    (long, rw (c.lookup-reply.ensures, called.ensures) (lookup-fits q.catalogue.now q.first q.second q.store.now))
+    (long, rw (c.lookup-reply.ensures, called.ensures) (lookup_fits q.catalogue.now q.first q.second q.store.now))
 
 same-length-2 : tie.Need-same-length-2
 same-length-2 c = search rules

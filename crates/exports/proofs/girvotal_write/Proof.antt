@@ -1,6 +1,6 @@
 -- `exports::girvotal_write` meets its contract.
 use Rattle.replies.proofs.Exporting.{exported_short, exported_long}
-use Rattle.replies.proofs.Refusals.{write-fits}
+use Rattle.replies.proofs.Refusals.{write_fits}
 use borrow.Author.Rules.{rules}
 use Rattle.exports.proofs.girvotal_write.Statement.{statement}
 use Rattle.exports.proofs.girvotal_write.Tie as tie
@@ -25,7 +25,7 @@ give-requires c κs =
     let called = c.before.before.before.before.write in
     let q = c.before.before.before.before.before.before.before.before.before.before.before.before.before.args in
     let long = c.before.before.before.before.before.before.before.is-short.ensures.long c.before.before.before.before.before.before.if1.false in
-    (long, rw c.write-reply.ensures (write-fits q.catalogue.now q.store.now q.output.now called.ensures))
+    (long, rw c.write-reply.ensures (write_fits q.catalogue.now q.store.now q.output.now called.ensures))
 
 same-length-2 : tie.Need-same-length-2
 same-length-2 c = search rules

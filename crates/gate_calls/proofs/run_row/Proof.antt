@@ -138,14 +138,14 @@ module _ {M : Type 1} {𝓤 : Ura M} (𝓛 : Logic 𝓤) (mem : Memory → SProp
     abbrev v : Val
     v = EL.val S.the_type S'.the_laws r.answer
 
-    abbrev to-say : (Say 𝓛 mem run).Ghost
-    to-say = (((κ', tt), (q', tt), tt, (r.part, (r.answer, tt)), (lent r.part ∷ [], (v ∷ [], tt))), tt)
+    abbrev to_say : (Say 𝓛 mem run).Ghost
+    to_say = (((κ', tt), (q', tt), tt, (r.part, (r.answer, tt)), (lent r.part ∷ [], (v ∷ [], tt))), tt)
 
     abbrev Fields : Fml
     Fields = all_own D.parts L (r.part, (r.answer, tt))
 
-    asks-say : ent 𝓤 (⋆ 𝓛 (token ∷ ‵ Fields ∷ [])) ((Say 𝓛 mem run).pre to-say)
-    asks-say = qed 𝓛 (token ∷ ‵ Fields ∷ []) ∵ join ! $ frame ! $ done !
+    asks_say : ent 𝓤 (⋆ 𝓛 (token ∷ ‵ Fields ∷ [])) ((Say 𝓛 mem run).pre to_say)
+    asks_say = qed 𝓛 (token ∷ ‵ Fields ∷ []) ∵ join ! $ frame ! $ done !
 
   exits : ent 𝓤 (⋆ 𝓛 (token ∷ ‵ (flft κ q) ∷ ‵ OwnB ∷ ‵ OwnStore ∷ [])) (Post vunit)
   exits =
@@ -173,9 +173,9 @@ module _ {M : Type 1} {𝓤 : Ura M} (𝓛 : Logic 𝓤) (mem : Memory → SProp
         assigns ! (of_opd ! (load ! (from ! (fld ! refl (stop !))) (look_in ! 9 (sub ! 0 refl (whole !))))) (from ! (stop !)) (init ! 5 refl ((shr_slice_Lawful 𝓛 erased κ' u8).typed r.part _ (LL.owed D L r _ is).0).0) $
         assigns ! (of_opd ! (load ! (from ! (fld ! refl (stop !))) (look_in ! 9 (sub ! 1 refl (whole !))))) (from ! (stop !)) (init ! 3 refl ((EL.lawful S.the_type S'.the_laws 𝓛 tt).typed r.answer _ (LL.owed D L r _ is).1.0).0) $
         use1 𝓛 (given (u ∷ [] ≡ vstruct (spelled D.parts L (r.part, (r.answer, tt))) ∷ []) (‵ (Fields r))) (own_open 𝓛 D L (r.part, (r.answer, tt)) u) $ learn ! (λ _.
-        move ! (1 ∷ []) $ split ! $ move ! (1 ∷ 2 ∷ []) $ use2 𝓛 (raw ((Say 𝓛 mem run).pre (to-say r))) (asks-say r) $
+        move ! (1 ∷ []) $ split ! $ move ! (1 ∷ 2 ∷ []) $ use2 𝓛 (raw ((Say 𝓛 mem run).pre (to_say r))) (asks_say r) $
         -- [what `say_row` asks; the token of b; what the slices own; the locals]
-        calls_at ! fm (Say 𝓛 mem run) known_say (to-say r) (and_then ! (load ! (from ! (stop !)) (look ! 5 refl)) (and_then ! (load ! (from ! (stop !)) (look ! 3 refl)) (no_more !))) (λ u'.
+        calls_at ! fm (Say 𝓛 mem run) known_say (to_say r) (and_then ! (load ! (from ! (stop !)) (look ! 5 refl)) (and_then ! (load ! (from ! (stop !)) (look ! 3 refl)) (no_more !))) (λ u'.
         use1 𝓛 (later (some (λ (x : Unit {0}). (token ⊛ ‵ (unit.own_val x (u' ∷ []))) ⊛ raw (ensured 𝓛 say.ended (say.clauses 𝓛 mem run) (κ', tt) (r.part, (r.answer, tt)) tt x)))) (id⊢ 𝓤 _) $ await ! tt $ pick ! (λ x.
         split ! $ move ! (1 ∷ []) $ drop ! $ split ! $ move ! (1 ∷ []) $
         -- [what `say_row` returned; its token; that of b; what the slices own; the locals]

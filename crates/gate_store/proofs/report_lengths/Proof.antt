@@ -27,7 +27,7 @@ report-refused-requires-3 c κs = search rules
 report-store-requires : tie.Need-report-store-requires
 report-store-requires c κs =
     let s = c.before.before.before.before.before.before.before.before in
-    record { well_formed = s.requires; long = store_long s.args.b.now _ (sym c.before.before.before.before.before.store-fits.ensures ∙ not-false _ c.before.before.before.before.if1.false) }
+    record { well_formed = s.requires; long = store_long s.args.b.now _ (sym c.before.before.before.before.before.store_fits.ensures ∙ not-false _ c.before.before.before.before.if1.false) }
 
 returns : tie.Need-returns
 returns c = search rules

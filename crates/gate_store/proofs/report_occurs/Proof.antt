@@ -21,7 +21,7 @@ slice-aggregate-mark-occurring : tie.Need-slice-aggregate-mark-occurring
 slice-aggregate-mark-occurring c =
     let s = c.before.before.before.before.before in
     let n = c.before.concepts in
-    sym (length-take-le ((n.result + 7) / 8) s.args.row.now (omega (arith, n.ensures, s.requires.0.sized.well_formed.concepts-limit, s.requires.1)))
+    sym (length-take-le ((n.result + 7) / 8) s.args.row.now (omega (arith, n.ensures, s.requires.0.sized.well_formed.concepts_limit, s.requires.1)))
 
 mark-occurring-requires : tie.Need-mark-occurring-requires
 unfolding width

@@ -16,7 +16,7 @@ returns : tie.Need-returns
 returns c = search rules
 
 axioms-in-limit-requires : tie.Need-axioms-in-limit-requires
-axioms-in-limit-requires c κs = record { sized = c.before.before.before.before.requires; spare = sym c.before.spare-clear.ensures ∙ not-false _ c.if1.false }
+axioms-in-limit-requires c κs = record { sized = c.before.before.before.before.requires; spare = sym c.before.spare_clear.ensures ∙ not-false _ c.if1.false }
 
 report-refused-requires-2 : tie.Need-report-refused-requires-2
 report-refused-requires-2 c κs = search rules
@@ -29,7 +29,7 @@ slice-aggregate-report-occurs c = search rules
 
 report-occurs-requires : tie.Need-report-occurs-requires
 report-occurs-requires c κs =
-    (record { sized = c.before.before.before.before.before.before.before.requires; spare = sym c.before.before.before.before.spare-clear.ensures ∙ not-false _ c.before.before.before.if1.false }, omega arith)
+    (record { sized = c.before.before.before.before.before.before.before.requires; spare = sym c.before.before.before.before.spare_clear.ensures ∙ not-false _ c.before.before.before.if1.false }, omega arith)
 
 returns-3 : tie.Need-returns-3
 returns-3 c = search rules

@@ -32,7 +32,7 @@ slice-aggregate-contains c = search rules
 contains-requires : tie.Need-contains-requires
 contains-requires c κs =
     let w = well_formed c.before.before.before.before.before in
-    (w, omega (arith, c.before.before.before.before.concepts.ensures, c.before.before.before.if1.true), w.concepts-limit)
+    (w, omega (arith, c.before.before.before.before.concepts.ensures, c.before.before.before.if1.true), w.concepts_limit)
 
 slice-aggregate-write-all : tie.Need-slice-aggregate-write-all
 slice-aggregate-write-all c = search rules

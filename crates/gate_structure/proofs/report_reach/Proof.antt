@@ -23,7 +23,7 @@ roles-requires : tie.Need-roles-requires
 roles-requires c κs = header_within (well_formed c.before.before)
 
 report-square-requires : tie.Need-report-square-requires
-report-square-requires c κs = rw c.roles.ensures (well_formed c.before.before.before).roles-limit
+report-square-requires c κs = rw c.roles.ensures (well_formed c.before.before.before).roles_limit
 
 enum-known-number : tie.Need-enum-known-number
 enum-known-number c = search rules

@@ -15,18 +15,18 @@ of-requires : tie.Need-of-requires
 of-requires c κs = search rules
 
 mul-result : tie.Need-overflow-mul-result
-mul-result c = omega (arith, (shape_sizes c.before.before.requires.0 c.of.ensures).table-limit)
+mul-result c = omega (arith, (shape_sizes c.before.before.requires.0 c.of.ensures).table_limit)
 
 add-result : tie.Need-overflow-add-result
-add-result c = omega (arith, (shape_sizes c.before.before.requires.0 c.of.ensures).roles-limit)
+add-result c = omega (arith, (shape_sizes c.before.before.requires.0 c.of.ensures).roles_limit)
 
 mul-result-2 : tie.Need-overflow-mul-result-2
 mul-result-2 c =
     let p = c.before.before.requires in
     let s = c.of.result in
     let k = c.before.before.args.k in
-    let small : s.roles + k ≤ 18 = omega (arith, (shape_sizes p.0 c.of.ensures).roles-limit) in
-    omega (arith, mul-le-mul {n₂ = 32768} {m₂ = 18} (shape_sizes p.0 c.of.ensures).table-limit small)
+    let small : s.roles + k ≤ 18 = omega (arith, (shape_sizes p.0 c.of.ensures).roles_limit) in
+    omega (arith, mul-le-mul {n₂ = 32768} {m₂ = 18} (shape_sizes p.0 c.of.ensures).table_limit small)
 
 returns : tie.Need-returns
 unfolding shape_of width

@@ -10,7 +10,7 @@ of-requires : tie.Need-of-requires
 of-requires c κs = search rules
 
 add-result : tie.Need-overflow-add-result
-add-result c = let p = c.before.before.requires in omega (arith, shape_concepts _ c.of.ensures, p.0.concepts-limit)
+add-result c = let p = c.before.before.requires in omega (arith, shape_concepts _ c.of.ensures, p.0.concepts_limit)
 
 mul-result : tie.Need-overflow-mul-result
 mul-result c = let p = c.before.before.requires in omega (arith, shape_offset _ c.before.before.args.c c.of.ensures, offset_limit _ _ p.0 p.1)

@@ -5,7 +5,7 @@ use mathlib.Core.List.{List}
 use Prim.Native.Nat.{ℕ}
 use borrow.Author.Rules.{rules}
 use Rattle.text.specs.Text.{Appended}
-use Rattle.listings.proofs.Program.{refused-text, done_fits, done_text}
+use Rattle.listings.proofs.Program.{refused_text, done_fits, done_text}
 use Rattle.listings.proofs.program_text.Statement.{statement}
 use Rattle.listings.proofs.program_text.Tie as tie
 
@@ -44,7 +44,7 @@ returns c =
     let answer = c.before.before.before.before.before.answer.given in
     let line = c.before.before.refusal-text in
     subst (λ (t : List ℕ). Appended t s.args.out.now 0 line.result line.new.0)
-    (sym (refused-text s.args.input.now s.args.store.now s.args.work.now called.result called.new.1.0 called.new.1.1.0 s.requires.0 s.requires.1 called.ensures answer.0.0 answer.0.1.0 answer.1))
+    (sym (refused_text s.args.input.now s.args.store.now s.args.work.now called.result called.new.1.0 called.new.1.1.0 s.requires.0 s.requires.1 called.ensures answer.0.0 answer.0.1.0 answer.1))
     line.ensures
 
 same-length-4 : tie.Need-same-length-4

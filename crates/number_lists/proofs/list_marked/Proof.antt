@@ -3,7 +3,7 @@ use Prim.Native.Nat.{◌-◌}
 use native.Mathlib.Omega.{arith}
 use mathlib.Core.Path.{◌≡◌, refl, ◌∙◌}
 use lib.ListN.{length}
-use Rattle.number_lists.proofs.Filling.{filled-most, Walked, walked_none, walked_more, walked_all}
+use Rattle.number_lists.proofs.Filling.{filled_most, Walked, walked_none, walked_more, walked_all}
 use borrow.Author.Rules.{rules}
 use Rattle.number_lists.proofs.list_marked.Statement.{statement}
 use Rattle.number_lists.proofs.list_marked.Tie as tie
@@ -25,7 +25,7 @@ enter-requires c κs =
     let (short, most, room) = c.before.before.before.before.before.before.requires in
     let (long, walked) = c.before.before.loop.invariant in
     let test = c.before.loop-test.true in
-    (omega (arith, filled-most _ _ walked.filled), omega arith)
+    (omega (arith, filled_most _ _ walked.filled), omega arith)
 
 add-next-below : tie.Need-overflow-add-next-below invariant-loop decreases-loop
 add-next-below c = search rules

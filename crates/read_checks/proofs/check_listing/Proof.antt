@@ -24,7 +24,7 @@ list-fits-requires c κs = open_well_formed _ _ (sym c.before.before.check-openi
 
 returns : tie.Need-returns
 unfolding list_checks ask_list
-returns c = sym (open_accepted _ _ _ (sym c.before.before.before.before.check-opening.ensures ∙ ap outcome_of c.before.before.enum_told.given.1) ∙ ask_no 12 0 _ (sym c.before.list-fits.ensures ∙ not-true _ c.if1.true))
+returns c = sym (open_accepted _ _ _ (sym c.before.before.before.before.check-opening.ensures ∙ ap outcome_of c.before.before.enum_told.given.1) ∙ ask_no 12 0 _ (sym c.before.list_fits_lem.ensures ∙ not-true _ c.if1.true))
 
 check-content-requires : tie.Need-check-content-requires
 check-content-requires c κs = open_sized _ _ (sym c.before.before.before.before.check-opening.ensures ∙ ap outcome_of c.before.before.enum_told.given.1)
@@ -37,7 +37,7 @@ returns-3 : tie.Need-returns-3
 unfolding list_checks ask_list
 returns-3 c = c.check-content.ensures
     ∙ content_twice _ _ _
-    ∙ sym (open_accepted _ _ _ (sym c.before.before.before.before.before.check-opening.ensures ∙ ap outcome_of c.before.before.before.enum_told.given.1) ∙ ask_yes 12 0 _ (sym c.before.before.list-fits.ensures ∙ not-false _ c.before.if1.false))
+    ∙ sym (open_accepted _ _ _ (sym c.before.before.before.before.before.check-opening.ensures ∙ ap outcome_of c.before.before.before.enum_told.given.1) ∙ ask_yes 12 0 _ (sym c.before.before.list_fits_lem.ensures ∙ not-false _ c.before.if1.false))
 
 pub check_listing_spec : {M : Type 1} → statement M
 check_listing_spec =

@@ -4,7 +4,7 @@ use borrow.Author.Tests.{not-true, not-false}
 use Rattle.catalogue.specs.Outcome.{accepted}
 use Rattle.catalogue.specs.Verdicts.{outcome_of}
 use Rattle.catalogue.proofs.Outcomes.{ask_yes, ask_no}
-use Rattle.catalogue.proofs.Passed.{after-accepted, after-refused}
+use Rattle.catalogue.proofs.Passed.{after_accepted, after_refused}
 use Rattle.catalogue.proofs.Accepted.{accepted_well_formed}
 use Rattle.store.specs.Checks.{ask_store}
 use Rattle.read_checks.specs.Checks.{open_checks}
@@ -26,15 +26,15 @@ store-fits-requires c κs = accepted_well_formed (sym c.before.before.check.ensu
 
 returns : tie.Need-returns
 unfolding open_checks ask_store
-returns c = sym (after-accepted _ _ (sym c.before.before.before.before.check.ensures ∙ ap outcome_of c.before.before.enum_told.given.1) ∙ ask_no 10 0 accepted (sym c.before.store-fits.ensures ∙ not-true _ c.if1.true))
+returns c = sym (after_accepted _ _ (sym c.before.before.before.before.check.ensures ∙ ap outcome_of c.before.before.enum_told.given.1) ∙ ask_no 10 0 accepted (sym c.before.store_fits.ensures ∙ not-true _ c.if1.true))
 
 returns-2 : tie.Need-returns-2
 unfolding open_checks
-returns-2 c = sym (after-refused _ _ (sym c.before.before.before.check.ensures ∙ ap outcome_of c.before.verdict.given.1))
+returns-2 c = sym (after_refused _ _ (sym c.before.before.before.check.ensures ∙ ap outcome_of c.before.verdict.given.1))
 
 returns-3 : tie.Need-returns-3
 unfolding open_checks ask_store
-returns-3 c = sym (after-accepted _ _ (sym c.before.before.before.before.check.ensures ∙ ap outcome_of c.before.before.enum_told.given.1) ∙ ask_yes 10 0 accepted (sym c.before.store-fits.ensures ∙ not-false _ c.if1.false))
+returns-3 c = sym (after_accepted _ _ (sym c.before.before.before.before.check.ensures ∙ ap outcome_of c.before.before.enum_told.given.1) ∙ ask_yes 10 0 accepted (sym c.before.store_fits.ensures ∙ not-false _ c.if1.false))
 
 pub check_opening_spec : {M : Type 1} → statement M
 check_opening_spec =

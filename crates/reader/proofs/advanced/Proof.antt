@@ -35,7 +35,7 @@ use denote.Exit.{yes}
 use Rattle.reader.specs.declared.Reader.{Reader}
 use Rattle.reader.specs.contracts.Reader as T
 use Rattle.reader.proofs.Reader.TheLaws as T'
-use Rattle.reader.proofs.Held.{named-at, Held}
+use Rattle.reader.proofs.Held.{named_at, Held}
 use Rattle.reader.specs.contracts.advanced.Key.{name as #reader·advanced}
 use Rattle.reader.specs.contracts.advanced as advanced
 use Rattle.reader.proofs.advanced.Statement as stated
@@ -66,10 +66,10 @@ module _ {M : Type 1} {𝓤 : Ura M} (𝓛 : Logic 𝓤) (mem : Memory → SProp
   exits =
       qed 𝓛 ((‵ (flft κ q) ⊛ ‵ ftrue) ∷ ‵ (owns (Held (κ, tt) ∷ usize ∷ []) (d, (n, tt)) passed) ∷ []) ∵
       suffices ! _ (ends_at 𝓛 advanced.ended stayed (advanced.clauses 𝓛 mem run) (((κ, tt), (q, tt), tt, (d, (n, tt)), passed), tt) (T'.lowered moved) moved (tt, (tt, tt)) (tt, (tt, tt))) $ says ! (refl, refl) $
-      frame ! $ fsplit ! $ use1 𝓛 (‵ Own ⊛ ‵ Own) ((LL.copy (T.the_type (named-at κ)) (T'.the_copy (named-at κ)) 𝓛).twice d (T'.lowered d ∷ [])) $ split ! $ move ! (0 ∷ 2 ∷ []) $ fjoin ! $ frame ! $
+      frame ! $ fsplit ! $ use1 𝓛 (‵ Own ⊛ ‵ Own) ((LL.copy (T.the_type (named_at κ)) (T'.the_copy (named_at κ)) 𝓛).twice d (T'.lowered d ∷ [])) $ split ! $ move ! (0 ∷ 2 ∷ []) $ fjoin ! $ frame ! $
       -- [what the reader owns]
       owned ! usize (Is usize) (uint_Makes 𝓛 w64) (d.at + n) _ (refl, sum) $ move ! (1 ∷ 0 ∷ []) $
-      by ! (own_put 𝓛 (T.the_type (named-at κ)) (T'.the_laws (named-at κ)) 1 (d.src, (d.at, tt)) (d.at + n) (T'.lowered d))
+      by ! (own_put 𝓛 (T.the_type (named_at κ)) (T'.the_laws (named_at κ)) 1 (d.src, (d.at, tt)) (d.at + n) (T'.lowered d))
 
   module _ (C : Calls 𝓤 H) (Λ : Loops 𝓤 H) where
     walk : Holds (has_ty (T'.mir (named 0)) (T'.lowered d)) × WT (T'.lowered d) → ent 𝓤 Entry (WpFn 𝓤 H C Λ code.function (T'.lowered d ∷ vint w64 n ∷ []) Post)

@@ -35,7 +35,7 @@ use denote.Exit.{yes}
 use Rattle.reader.specs.declared.Reader.{Reader}
 use Rattle.reader.specs.contracts.Reader as T
 use Rattle.reader.proofs.Reader.TheLaws as T'
-use Rattle.reader.proofs.Held.{named-at, lent}
+use Rattle.reader.proofs.Held.{named_at, lent}
 use Rattle.reader.specs.contracts.new.Key.{name as #reader·new}
 use Rattle.reader.specs.contracts.new as new
 use Rattle.reader.proofs.new.Statement as stated
@@ -69,7 +69,7 @@ module _ {M : Type 1} {𝓤 : Ura M} (𝓛 : Logic 𝓤) (mem : Memory → SProp
       frame ! $ fsplit ! $ use1 𝓛 (‵ Own ⊛ ‵ Own) ((shr_slice_copy 𝓛 (named 0) κ u8).twice s (lent s ∷ [])) $ split ! $ move ! (0 ∷ 2 ∷ []) $ fjoin ! $ frame ! $
       -- [what the slice owns]
       nothing ! $ owned ! usize (Is usize) (uint_Makes 𝓛 w64) n _ (refl, fits) $ fjoin ! $ move ! (1 ∷ 0 ∷ []) $ fjoin ! $
-      by ! (own_shut 𝓛 (T.the_type (named-at κ)) (T'.the_laws (named-at κ)) (s, (n, tt)))
+      by ! (own_shut 𝓛 (T.the_type (named_at κ)) (T'.the_laws (named_at κ)) (s, (n, tt)))
 
   module _ (C : Calls 𝓤 H) (Λ : Loops 𝓤 H) where
     walk : Is (ShrSlice (named 0) κ u8) s (lent s ∷ []) → ent 𝓤 Entry (WpFn 𝓤 H C Λ code.function (lent s ∷ vint w64 n ∷ []) Post)

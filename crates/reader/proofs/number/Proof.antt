@@ -47,7 +47,7 @@ use Rattle.catalogue.proofs.word.Met as word-thm
 use Rattle.reader.specs.declared.Reader.{Reader}
 use Rattle.reader.specs.contracts.Reader as T
 use Rattle.reader.proofs.Reader.TheLaws as T'
-use Rattle.reader.proofs.Held.{named-at, Held, lent}
+use Rattle.reader.proofs.Held.{named_at, Held, lent}
 use Rattle.reader.specs.contracts.number.Key.{name as #reader·number}
 use Rattle.reader.specs.contracts.number as number
 use Rattle.reader.proofs.number.Statement as stated
@@ -73,10 +73,10 @@ module _ {M : Type 1} {𝓤 : Ura M} (𝓛 : Logic 𝓤) (mem : Memory → SProp
   Own = (Held (κ, tt)).own_val d (T'.lowered d ∷ [])
 
   abbrev D : Declared
-  D = T.the_type (named-at κ)
+  D = T.the_type (named_at κ)
 
   abbrev L : LL.Laws D
-  L = T'.the_laws (named-at κ)
+  L = T'.the_laws (named_at κ)
 
   abbrev fields : Values D.parts
   fields = (d.src, (d.at, tt))
@@ -94,7 +94,7 @@ module _ {M : Type 1} {𝓤 : Ura M} (𝓛 : Logic 𝓤) (mem : Memory → SProp
   apart : d.at < 2 ^ 64 → ent 𝓤 Entry (sep 𝓤 ((Word 𝓛 mem run).pre to_word) (sem 𝓛 Own))
   apart fits =
       qed 𝓛 ((‵ (flft κ q) ⊛ ‵ ftrue) ∷ ‵ (owns (Held (κ, tt) ∷ []) (d, tt) (T'.lowered d ∷ [], tt)) ∷ []) ∵
-      move ! (1 ∷ []) $ fsplit ! $ move ! (1 ∷ []) $ drop ! $ use1 𝓛 (‵ Own ⊛ ‵ Own) ((LL.copy D (T'.the_copy (named-at κ)) 𝓛).twice d (T'.lowered d ∷ [])) $ split ! $
+      move ! (1 ∷ []) $ fsplit ! $ move ! (1 ∷ []) $ drop ! $ use1 𝓛 (‵ Own ⊛ ‵ Own) ((LL.copy D (T'.the_copy (named_at κ)) 𝓛).twice d (T'.lowered d ∷ [])) $ split ! $
       use1 𝓛 (given (T'.lowered d ∷ [] ≡ T'.lowered d ∷ []) (‵ (all_own D.parts L fields))) (own_open 𝓛 D L fields (T'.lowered d)) $ learn ! (λ _.
       use1 𝓛 (‵ (field_own D.parts L 0 d.src) ⊛ ‵ (rest D.parts L 0 fields)) (own_out 𝓛 D.parts L 0 fields) $ split ! $
       -- [what the slice owns; what the position owns; what the reader owns; the token]

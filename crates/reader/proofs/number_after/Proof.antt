@@ -105,25 +105,25 @@ module _ {M : Type 1} {𝓤 : Ura M} (𝓛 : Logic 𝓤) (mem : Memory → SProp
   Own = (ShrSlice (named 0) κ u8).own_val s (lent s ∷ [])
 
   -- The call of `new`.
-  abbrev to-new : (New 𝓛 mem run).Ghost
-  to-new = (((κ, tt), (q, tt), tt, (s, (n, tt)), (lent s ∷ [], (vint w64 n ∷ [], tt))), tt)
+  abbrev to_new : (New 𝓛 mem run).Ghost
+  to_new = (((κ, tt), (q, tt), tt, (s, (n, tt)), (lent s ∷ [], (vint w64 n ∷ [], tt))), tt)
 
-  goes_new : ent 𝓤 Entry (sep 𝓤 ((New 𝓛 mem run).pre to-new) (sem 𝓛 Own))
+  goes_new : ent 𝓤 Entry (sep 𝓤 ((New 𝓛 mem run).pre to_new) (sem 𝓛 Own))
   goes_new =
       qed 𝓛 ((‵ (flft κ q) ⊛ ‵ ftrue) ∷ ‵ (owns (ShrSlice (named 0) κ u8 ∷ usize ∷ usize ∷ []) (s, (n, (k, tt))) passed) ∷ []) ∵
       move ! (1 ∷ []) $ fsplit ! $ use1 𝓛 (‵ Own ⊛ ‵ Own) ((shr_slice_copy 𝓛 (named 0) κ u8).twice s (lent s ∷ [])) $ split ! $ move ! (2 ∷ []) $ drop ! $
       -- [what the slice owns; the same; the token]
       nothing ! $ owned ! usize (Is usize) (uint_Makes 𝓛 w64) n _ (refl, n_fits) $ fjoin ! $ move ! (1 ∷ 0 ∷ []) $ fjoin ! $ move ! (2 ∷ 0 ∷ []) $
-      use2 𝓛 (raw ((New 𝓛 mem run).pre to-new)) (qed 𝓛 ((‵ (flft κ q) ⊛ ‵ ftrue) ∷ ‵ (owns (ShrSlice (named 0) κ u8 ∷ usize ∷ []) (s, (n, tt)) (lent s ∷ [], (vint w64 n ∷ [], tt))) ∷ []) ∵ join ! $ frame ! $ done !) $ frame ! $ done !
+      use2 𝓛 (raw ((New 𝓛 mem run).pre to_new)) (qed 𝓛 ((‵ (flft κ q) ⊛ ‵ ftrue) ∷ ‵ (owns (ShrSlice (named 0) κ u8 ∷ usize ∷ []) (s, (n, tt)) (lent s ∷ [], (vint w64 n ∷ [], tt))) ∷ []) ∵ join ! $ frame ! $ done !) $ frame ! $ done !
 
   new_said : (r : Reader) → ent 𝓤 (ensured 𝓛 new.ended (new.clauses 𝓛 mem run) (κ, tt) (s, (n, tt)) tt r) (fact 𝓤 (Made s n r))
   new_said r = ex_e 𝓤 _ (λ ws. snd∗ 𝓤 (sem 𝓛 (lasts new.ended (κ, tt) (s, (n, tt)) ws)) (fact 𝓤 (Made s n r)))
 
   -- The call of `advanced`, at the reader r with the machine value u.
-  abbrev to-advanced : Reader → Val → (Advanced 𝓛 mem run).Ghost
-  to-advanced r u = (((κ, tt), (q, tt), tt, (r, (k, tt)), (u ∷ [], (vint w64 k ∷ [], tt))), tt)
+  abbrev to_advanced : Reader → Val → (Advanced 𝓛 mem run).Ghost
+  to_advanced r u = (((κ, tt), (q, tt), tt, (r, (k, tt)), (u ∷ [], (vint w64 k ∷ [], tt))), tt)
 
-  goes_advanced : (r : Reader) (u : Val) → r.at + k < 2 ^ 64 → ent 𝓤 (⋆ 𝓛 (‵ ((Held (κ, tt)).own_val r (u ∷ [])) ∷ (‵ (flft κ q) ⊛ ‵ ftrue) ∷ [])) ((Advanced 𝓛 mem run).pre (to-advanced r u))
+  goes_advanced : (r : Reader) (u : Val) → r.at + k < 2 ^ 64 → ent 𝓤 (⋆ 𝓛 (‵ ((Held (κ, tt)).own_val r (u ∷ [])) ∷ (‵ (flft κ q) ⊛ ‵ ftrue) ∷ [])) ((Advanced 𝓛 mem run).pre (to_advanced r u))
   goes_advanced r u sum =
       qed 𝓛 (‵ ((Held (κ, tt)).own_val r (u ∷ [])) ∷ (‵ (flft κ q) ⊛ ‵ ftrue) ∷ []) ∵ says ! sum $
       nothing ! $ owned ! usize (Is usize) (uint_Makes 𝓛 w64) k _ (refl, k_fits) $ fjoin ! $ move ! (1 ∷ 0 ∷ []) $ fjoin ! $ move ! (1 ∷ 0 ∷ []) $ frame ! $ done !
@@ -156,15 +156,15 @@ module _ {M : Type 1} {𝓤 : Ura M} (𝓛 : Logic 𝓤) (mem : Memory → SProp
         qed 𝓛 (raw Entry ∷ []) ∵ enter ! C Λ code.function (lent s ∷ vint w64 n ∷ vint w64 k ∷ []) _ $
         alloc1 ! (λ l₀. alloc1 ! (λ l₁. alloc1 ! (λ l₂. alloc1 ! (λ l₃. alloc1 ! (λ l₄. alloc1 ! (λ l₅. alloc0 ! $ params1 ! $ pass1 ! (init ! 8 refl typed) $ pass1 ! (init ! 6 refl (tt, record { fits = n_fits })) $ pass1 ! (init ! 4 refl (tt, record { fits = k_fits })) $ pass0 ! $
         -- [room for the reader made; …; for the one moved on; …; size; …; at; …; src; …; room for the result; …; the entry]
-        move ! (12 ∷ []) $ use1 𝓛 (raw ((New 𝓛 mem run).pre to-new) ⊛ ‵ Own) goes_new $ split ! $
-        calls_at ! fm (New 𝓛 mem run) known_new to-new (and_then ! (load ! (from ! (stop !)) (look ! 10 refl)) (and_then ! (load ! (from ! (stop !)) (look ! 8 refl)) (no_more !))) (λ u.
+        move ! (12 ∷ []) $ use1 𝓛 (raw ((New 𝓛 mem run).pre to_new) ⊛ ‵ Own) goes_new $ split ! $
+        calls_at ! fm (New 𝓛 mem run) known_new to_new (and_then ! (load ! (from ! (stop !)) (look ! 10 refl)) (and_then ! (load ! (from ! (stop !)) (look ! 8 refl)) (no_more !))) (λ u.
         use1 𝓛 (later (some (λ (r : Reader). ((‵ (flft κ q) ⊛ ‵ ftrue) ⊛ ‵ ((Held (κ, tt)).own_val r (u ∷ []))) ⊛ raw (ensured 𝓛 new.ended (new.clauses 𝓛 mem run) (κ, tt) (s, (n, tt)) tt r)))) (id⊢ 𝓤 _) $ await ! tt $ pick ! (λ r.
         split ! $ move ! (1 ∷ []) $ use1 𝓛 (raw (fact 𝓤 (Made s n r))) (new_said r) $ heard ! (Made s n r) (λ e. split ! $ move ! (1 ∷ []) $
         -- [what the reader made owns; the token; what the slice owns; room for it; …]
         peeks ! (Held (κ, tt)) (Is (Held (κ, tt))) (shows 𝓛 (Held (κ, tt))) r (u ∷ []) (λ is_made.
         land ! (from ! (stop !)) (init ! 3 refl ((LL.lawful (T.the_type (local_at κ)) (T'.the_laws (local_at κ)) 𝓛).typed r _ is_made).0) $
-        use2 𝓛 (raw ((Advanced 𝓛 mem run).pre (to-advanced r u))) (goes_advanced r u (sum_fits s n k r e within typed.1.1.0.fits)) $
-        calls_at ! fm (Advanced 𝓛 mem run) known_advanced (to-advanced r u) (and_then ! (load ! (from ! (stop !)) (look ! 2 refl)) (and_then ! (load ! (from ! (stop !)) (look ! 6 refl)) (no_more !))) (λ u'.
+        use2 𝓛 (raw ((Advanced 𝓛 mem run).pre (to_advanced r u))) (goes_advanced r u (sum_fits s n k r e within typed.1.1.0.fits)) $
+        calls_at ! fm (Advanced 𝓛 mem run) known_advanced (to_advanced r u) (and_then ! (load ! (from ! (stop !)) (look ! 2 refl)) (and_then ! (load ! (from ! (stop !)) (look ! 6 refl)) (no_more !))) (λ u'.
         use1 𝓛 (later (some (λ (r' : Reader). ((‵ (flft κ q) ⊛ ‵ ftrue) ⊛ ‵ ((Held (κ, tt)).own_val r' (u' ∷ []))) ⊛ raw (ensured 𝓛 advanced.ended (advanced.clauses 𝓛 mem run) (κ, tt) (r, (k, tt)) tt r')))) (id⊢ 𝓤 _) $ await ! tt $ pick ! (λ r'.
         split ! $ move ! (1 ∷ []) $ use1 𝓛 (raw (fact 𝓤 (Moved r k r'))) (advanced_said r r') $ heard ! (Moved r k r') (λ e'. split ! $ move ! (1 ∷ []) $
         peeks ! (Held (κ, tt)) (Is (Held (κ, tt))) (shows 𝓛 (Held (κ, tt))) r' (u' ∷ []) (λ is-moved.

@@ -3,7 +3,7 @@ use Prim.Native.Nat.{◌+◌, ◌≤◌}
 use native.Mathlib.Omega.{arith}
 use mathlib.Core.Path.{refl}
 use lib.ListN.{length}
-use Rattle.row_parts.proofs.Answered.{names-part, names-empty}
+use Rattle.row_parts.proofs.Answered.{names_part, names_empty}
 use borrow.Author.Rules.{rules}
 use Rattle.row_parts.proofs.part_of.Statement.{statement}
 use Rattle.row_parts.proofs.part_of.Tie as tie
@@ -39,10 +39,10 @@ part-result-end-2 : tie.Need-slice-bounds-result-end-2
 part-result-end-2 c = search rules
 
 returns : tie.Need-returns
-returns c = names-part _ _ _ _ _ c.before.before.answer.given.1 refl refl
+returns c = names_part _ _ _ _ _ c.before.before.answer.given.1 refl refl
 
 returns-2 : tie.Need-returns-2
-returns-2 c = names-empty _ _ _ _ _ c.before.enum_told.given.1 refl
+returns-2 c = names_empty _ _ _ _ _ c.before.enum_told.given.1 refl
 
 pub part_of_spec : {M : Type 1} → statement M
 part_of_spec =

@@ -48,7 +48,7 @@ use Rattle.row_parts.specs.contracts.RowAnswer as T
 use Rattle.row_parts.proofs.RowAnswer.TheLaws as T'
 use Rattle.row_parts.specs.contracts.Handed as S
 use Rattle.row_parts.proofs.Handed.TheLaws as S'
-use Rattle.row_parts.proofs.Answered.{answer-within, names-handed}
+use Rattle.row_parts.proofs.Answered.{answer_within, names_handed}
 use Rattle.row_parts.specs.contracts.part_of as part
 use Rattle.row_parts.proofs.part_of.Symbol as part-def
 use Rattle.row_parts.proofs.part_of.Symbol.{name as #part}
@@ -70,10 +70,10 @@ abbrev part_type : Ty
 part_type = slice_ty (ty_ref (named 1) imm (pointee u8.written))
 
 -- Two tests that hold.
-holds-both : (p q : Bool) → Holds p → Holds q → Holds (p && q)
-holds-both true true h k = tt
-holds-both true false h k = k
-holds-both false q h k = h
+holds_both : (p q : Bool) → Holds p → Holds q → Holds (p && q)
+holds_both true true h k = tt
+holds_both true false h k = k
+holds_both false q h k = h
 
 -- The callees' contracts.
 module _ {M : Type 1} {𝓤 : Ura M} (𝓛 : Logic 𝓤) (mem : Memory → SProp 𝓤) (run : Routine → Fun 𝓤) where
@@ -125,8 +125,8 @@ module _ {M : Type 1} {𝓤 : Ura M} (𝓛 : Logic 𝓤) (mem : Memory → SProp
       frame ! $ move ! (1 ∷ 0 ∷ []) $ frame ! $ done !
 
   -- The call of `row_answer`: what it is passed, what it asks, and what is known of its result.
-  abbrev to-answer : (Answer 𝓛 mem run).Ghost
-  to-answer = ((κs, (q, (q', tt)), tt, args, passed), tt)
+  abbrev to_answer : (Answer 𝓛 mem run).Ghost
+  to_answer = ((κs, (q, (q', tt)), tt, args, passed), tt)
 
   answer_said : (a : Handed) → ent 𝓤 (ensured 𝓛 answer.ended (answer.clauses 𝓛 mem run) κs args tt a) (fact 𝓤 (a ≡ row_answer b.now c store.now))
   answer_said a = ex_e 𝓤 _ (λ ws. snd∗ 𝓤 (sem 𝓛 (lasts answer.ended κs args ws)) (fact 𝓤 (a ≡ row_answer b.now c store.now)))
@@ -136,8 +136,8 @@ module _ {M : Type 1} {𝓤 : Ura M} (𝓛 : Logic 𝓤) (mem : Memory → SProp
       qed 𝓛 (tokens ∷ ‵ Owns ∷ []) ∵
       frame ! $ fsplit ! $ frame ! $ fsplit ! $ drop ! $ fsplit ! $ move ! (1 ∷ []) $ drop ! $ done !
 
-  asks-answer : ent 𝓤 (⋆ 𝓛 (tokens ∷ ‵ Owns ∷ [])) ((Answer 𝓛 mem run).pre to-answer)
-  asks-answer = qed 𝓛 (tokens ∷ ‵ Owns ∷ []) ∵ join ! $ frame ! $ done !
+  asks_answer : ent 𝓤 (⋆ 𝓛 (tokens ∷ ‵ Owns ∷ [])) ((Answer 𝓛 mem run).pre to_answer)
+  asks_answer = qed 𝓛 (tokens ∷ ‵ Owns ∷ []) ∵ join ! $ frame ! $ done !
 
   -- The call of `part_of`, likewise, with the answer a at its machine value.
   abbrev token : Item 𝓤
@@ -156,8 +156,8 @@ module _ {M : Type 1} {𝓤 : Ura M} (𝓛 : Logic 𝓤) (mem : Memory → SProp
     part_said : (r : Bor (List ℕ)) → ent 𝓤 (ensured 𝓛 part.ended (part.clauses 𝓛 mem run) (κ', tt) (store, (a, tt)) tt r) (fact 𝓤 (Names store a r))
     part_said r = ex_e 𝓤 _ (λ ws. snd∗ 𝓤 (sem 𝓛 (lasts part.ended (κ', tt) (store, (a, tt)) ws)) (fact 𝓤 (Names store a r)))
 
-    asks-part : Within store.now a → ent 𝓤 (⋆ 𝓛 (token ∷ ‵ OwnsPart ∷ [])) ((Part 𝓛 mem run).pre to_part)
-    asks-part w = qed 𝓛 (token ∷ ‵ OwnsPart ∷ []) ∵ says ! w $ frame ! $ done !
+    asks_part : Within store.now a → ent 𝓤 (⋆ 𝓛 (token ∷ ‵ OwnsPart ∷ [])) ((Part 𝓛 mem run).pre to_part)
+    asks_part w = qed 𝓛 (token ∷ ‵ OwnsPart ∷ []) ∵ says ! w $ frame ! $ done !
 
     -- What it asks, beside what is kept.
     lends : Within store.now a
@@ -170,7 +170,7 @@ module _ {M : Type 1} {𝓤 : Ura M} (𝓛 : Logic 𝓤) (mem : Memory → SProp
         use1 𝓛 (‵ OwnStore ⊛ ‵ OwnStore) ((shr_slice_copy 𝓛 (named 1) κ' u8).twice store (lent store ∷ [])) $ split ! $
         -- [store; store; the answer; the answer; the tokens; b]
         nothing ! $ move ! (3 ∷ 0 ∷ []) $ fjoin ! $ move ! (1 ∷ 0 ∷ []) $ fjoin ! $ move ! (3 ∷ []) $ split ! $ move ! (1 ∷ 2 ∷ []) $
-        use2 𝓛 (raw ((Part 𝓛 mem run).pre to_part)) (asks-part w) $
+        use2 𝓛 (raw ((Part 𝓛 mem run).pre to_part)) (asks_part w) $
         -- [what `part_of` asks; the token of b; store; the answer; b]
         frame ! $ frame ! $ move ! (1 ∷ []) $ frame ! $ move ! (1 ∷ []) $ frame ! $ done !
 
@@ -206,15 +206,15 @@ module _ {M : Type 1} {𝓤 : Ura M} (𝓛 : Logic 𝓤) (mem : Memory → SProp
         pass1 ! (init ! 8 refl ((shr_slice_Lawful 𝓛 (named 0) κ u8).typed b (lent b ∷ []) is_b).0) $ pass1 ! (init ! 6 refl (tt, record { fits = c_fits })) $ pass1 ! (init ! 4 refl ((shr_slice_Lawful 𝓛 (named 1) κ' u8).typed store (lent store ∷ []) is_IsStore).0) $ pass0 ! $
         -- [room for the part; …; for the answer; …; store; …; c; …; b; …; room for the result; …; the entry]
         move ! (12 ∷ []) $ use1 𝓛 (tokens ⊛ (‵ OwnB ⊛ ‵ OwnStore)) opened $ split ! $ move ! (1 ∷ []) $ split ! $
-        use2 𝓛 (‵ Owns ⊛ (‵ OwnB ⊛ ‵ OwnStore)) copied $ split ! $ move ! (2 ∷ 0 ∷ []) $ use2 𝓛 (raw ((Answer 𝓛 mem run).pre to-answer)) asks-answer $
+        use2 𝓛 (‵ Owns ⊛ (‵ OwnB ⊛ ‵ OwnStore)) copied $ split ! $ move ! (2 ∷ 0 ∷ []) $ use2 𝓛 (raw ((Answer 𝓛 mem run).pre to_answer)) asks_answer $
         -- [what `row_answer` asks; what the slices own; the locals]
-        calls_at ! fm (Answer 𝓛 mem run) known_answer to-answer (and_then ! (load ! (from ! (stop !)) (look ! 10 refl)) (and_then ! (load ! (from ! (stop !)) (look ! 8 refl)) (and_then ! (load ! (from ! (stop !)) (look ! 6 refl)) (no_more !)))) (λ u'.
+        calls_at ! fm (Answer 𝓛 mem run) known_answer to_answer (and_then ! (load ! (from ! (stop !)) (look ! 10 refl)) (and_then ! (load ! (from ! (stop !)) (look ! 8 refl)) (and_then ! (load ! (from ! (stop !)) (look ! 6 refl)) (no_more !)))) (λ u'.
         use1 𝓛 (later (some (λ (a : Handed). (tokens ⊛ ‵ ((S.the_row).own_val a (u' ∷ []))) ⊛ raw (ensured 𝓛 answer.ended (answer.clauses 𝓛 mem run) κs args tt a)))) (id⊢ 𝓤 _) $ await ! tt $ pick ! (λ a.
         split ! $ move ! (1 ∷ []) $ use1 𝓛 (raw (fact 𝓤 (a ≡ row_answer b.now c store.now))) (answer_said a) $ heard ! (a ≡ row_answer b.now c store.now) (λ e. split ! $ move ! (1 ∷ []) $
         -- [what the answer owns; the tokens; what the slices own; the locals]
         peeks ! S.the_row (Is S.the_row) (shows 𝓛 S.the_row) a (u' ∷ []) (λ is'.
         land ! (from ! (stop !)) (init ! 5 refl ((EL.lawful S.the_type S'.the_laws 𝓛 tt).typed a _ is').0) $
-        move ! (1 ∷ 2 ∷ []) $ join ! $ use2 𝓛 (raw ((Part 𝓛 mem run).pre (to_part a u')) ⊛ (‵ (flft κ q) ⊛ (‵ (OwnAnswer a u') ⊛ (‵ OwnB ⊛ ‵ OwnStore)))) (lends a u' (answer-within b.now c store.now a e)) $ split ! $
+        move ! (1 ∷ 2 ∷ []) $ join ! $ use2 𝓛 (raw ((Part 𝓛 mem run).pre (to_part a u')) ⊛ (‵ (flft κ q) ⊛ (‵ (OwnAnswer a u') ⊛ (‵ OwnB ⊛ ‵ OwnStore)))) (lends a u' (answer_within b.now c store.now a e)) $ split ! $
         -- [what `part_of` asks; what is kept; the locals]
         calls_at ! fm (Part 𝓛 mem run) known_part (to_part a u') (and_then ! (load ! (from ! (stop !)) (look ! 6 refl)) (and_then ! (load ! (from ! (stop !)) (look ! 4 refl)) (no_more !))) (λ u.
         use1 𝓛 (later (some (λ (r : Bor (List ℕ)). (token ⊛ ‵ ((ShrSlice (named 1) κ' u8).own_val r (u ∷ []))) ⊛ raw (ensured 𝓛 part.ended (part.clauses 𝓛 mem run) (κ', tt) (store, (a, tt)) tt r)))) (id⊢ 𝓤 _) $ await ! tt $ pick ! (λ r.
@@ -223,14 +223,14 @@ module _ {M : Type 1} {𝓤 : Ura M} (𝓛 : Logic 𝓤) (mem : Memory → SProp
         peeks ! (ShrSlice (named 1) κ' u8) (Is (ShrSlice (named 1) κ' u8)) (shows 𝓛 (ShrSlice (named 1) κ' u8)) r (u ∷ []) (λ is.
         land ! (from ! (stop !)) (init ! 3 refl ((shr_slice_Lawful 𝓛 erased κ' u8).typed r (u ∷ []) is).0) $
         assigns ! (agg ! (and_then ! (load ! (from ! (stop !)) (look ! 3 refl)) (and_then ! (load ! (from ! (stop !)) (look ! 5 refl)) (no_more !)))) (from ! (stop !)) (init ! 13 refl (
-          holds-both (has_ty part_type u) (has_ty S'.mir u' && true) ((shr_slice_Lawful 𝓛 (named 1) κ' u8).typed r (u ∷ []) is).0.0 (holds-both (has_ty S'.mir u') true ((EL.lawful S.the_type S'.the_laws 𝓛 tt).typed a _ is').0.0 tt),
+          holds_both (has_ty part_type u) (has_ty S'.mir u' && true) ((shr_slice_Lawful 𝓛 (named 1) κ' u8).typed r (u ∷ []) is).0.0 (holds_both (has_ty S'.mir u') true ((EL.lawful S.the_type S'.the_laws 𝓛 tt).typed a _ is').0.0 tt),
           (((shr_slice_Lawful 𝓛 (named 1) κ' u8).typed r (u ∷ []) is).0.1, (((EL.lawful S.the_type S'.the_laws 𝓛 tt).typed a _ is').0.1, tt)),
         )) $
         returns ! (look ! 13 refl) $ forget ! 3 refl $ forget ! 5 refl $ forget ! 7 refl $ forget ! 9 refl $ forget ! 11 refl $ forget ! 13 refl $
         move ! (13 ∷ 14 ∷ []) $ free1 ! $ move ! (11 ∷ 12 ∷ []) $ free1 ! $ move ! (9 ∷ 10 ∷ []) $ free1 ! $ move ! (7 ∷ 8 ∷ []) $ free1 ! $ move ! (5 ∷ 6 ∷ []) $ free1 ! $ move ! (3 ∷ 4 ∷ []) $ free1 ! $ free0 ! $
         -- the tokens together again, and what the answer, the slices and the part own
         move ! (2 ∷ []) $ split ! $ move ! (0 ∷ 3 ∷ []) $ join ! $ move ! (1 ∷ []) $ split ! $ move ! (0 ∷ 2 ∷ []) $
-        by ! (exits r a (names-handed b.now c store r a e n) e u u' is is')))))))))))))))
+        by ! (exits r a (names_handed b.now c store r a e n) e u u' is is')))))))))))))))
 
 module _ {M : Type 1} {𝓤 : Ura M} (𝓛 : Logic 𝓤) (mem : Memory → SProp 𝓤) (run : Routine → Fun 𝓤) where
   open 𝓛 use {H}

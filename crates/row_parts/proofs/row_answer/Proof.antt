@@ -5,8 +5,8 @@ use Rattle.catalogue.specs.Outcome.{accepted}
 use Rattle.catalogue.specs.Verdicts.{outcome_of}
 use Rattle.row_parts.specs.declared.Handed.TheVariants.{Row}
 use Rattle.read_checks.specs.Checks.{read_checks, Named}
-use Rattle.read_checks.proofs.Acceptance.{read_named, named-one, read_twice}
-use Rattle.row_parts.proofs.Answered.{row-accepted, row-refused}
+use Rattle.read_checks.proofs.Acceptance.{read_named, named_one, read_twice}
+use Rattle.row_parts.proofs.Answered.{row_accepted, row_refused}
 use borrow.Author.Rules.{rules}
 use Rattle.row_parts.proofs.row_answer.Statement.{statement}
 use Rattle.row_parts.proofs.row_answer.Tie as tie
@@ -32,15 +32,15 @@ of-requires : tie.Need-of-requires
 of-requires c κs = (ready c).clear.sized.well_formed
 
 pair-offset-requires : tie.Need-pair-offset-requires
-pair-offset-requires c κs = let m = ready c.before in (m.clear.sized.well_formed, named-one _ _ _ m)
+pair-offset-requires c κs = let m = ready c.before in (m.clear.sized.well_formed, named_one _ _ _ m)
 
 returns : tie.Need-returns
-returns c = sym (row-refused _ _ _ (sym (read_twice _ _ _) ∙ sym c.before.before.before.check-reading.ensures ∙ ap outcome_of c.before.verdict.given.1))
+returns c = sym (row_refused _ _ _ (sym (read_twice _ _ _) ∙ sym c.before.before.before.check-reading.ensures ∙ ap outcome_of c.before.verdict.given.1))
 
 returns-2 : tie.Need-returns-2
 returns-2 c =
     ap₂ Row c.pair-offset.ensures (shape_width _ c.before.of.ensures)
-    ∙ sym (row-accepted _ _ _ (accepts c.before.before))
+    ∙ sym (row_accepted _ _ _ (accepts c.before.before))
 
 pub row_answer_spec : {M : Type 1} → statement M
 row_answer_spec =

@@ -3,7 +3,7 @@ use mathlib.Core.Path.{◌≡◌, refl, sym}
 use mathlib.Core.Bool.{Bool, true, false, ◌||◌, not, true≢false}
 use Rattle.booleans.proofs.Booleans.{neither}
 use Rattle.rows.specs.Bits.{any_bit}
-use Rattle.rows.proofs.Lowest.{any_nonzero, any-zero}
+use Rattle.rows.proofs.Lowest.{any_nonzero, any_zero}
 use borrow.Author.Rules.{rules}
 use borrow.Author.Count.{below_more}
 use borrow.Author.Tests.{eqb-true, eqb-false, not-true, not-false}
@@ -51,7 +51,7 @@ loop-again c =
     )
 
 returns : tie.Need-returns invariant-loop decreases-loop
-returns c = decided c.before.loop.found (any_bit c.before.before.args.row.now) c.before.loop.invariant.2 (λ e. any-zero c.before.before.args.row.now (λ k l. c.before.loop.invariant.1 e k (omega arith)))
+returns c = decided c.before.loop.found (any_bit c.before.before.args.row.now) c.before.loop.invariant.2 (λ e. any_zero c.before.before.args.row.now (λ k l. c.before.loop.invariant.1 e k (omega arith)))
 
 pub any_spec : {M : Type 1} → statement M
 any_spec =

@@ -1,7 +1,7 @@
 -- `rows::clear_in_row` meets its contract: a bit cleared in the lent part is that bit of the whole.
 use Prim.Native.Nat.{◌+◌, ◌*◌}
 use native.Mathlib.Omega.{arith}
-use Rattle.rows.proofs.Bits.{clear-part}
+use Rattle.rows.proofs.Bits.{clear_part}
 use borrow.Author.Rules.{rules}
 use Rattle.rows.proofs.clear_in_row.Statement.{statement}
 use Rattle.rows.proofs.clear_in_row.Tie as tie
@@ -31,7 +31,7 @@ returns : tie.Need-returns
 returns c =
     let a = c.before.before.before.before.before.args in
     rw c.before.before.clear.ensures
-    (clear-part a.rows.now (a.r * a.w) (a.r * a.w + a.w) a.i (omega arith) (omega arith) (omega arith))
+    (clear_part a.rows.now (a.r * a.w) (a.r * a.w + a.w) a.i (omega arith) (omega arith) (omega arith))
 
 pub clear_in_row_spec : {M : Type 1} → statement M
 clear_in_row_spec = tie.close (tie.spec mul-start add_end sub-clear part-clear-start part-clear-end clear-requires same_length returns)

@@ -7,7 +7,7 @@ use lib.ListN.{length}
 use lib.Count.{ones, ones-le}
 use Rattle.rows.specs.Bits.{bit, count_below, count_bits}
 use Rattle.rows.proofs.Counting.{count_le}
-use Rattle.rows.proofs.Words.{count-number}
+use Rattle.rows.proofs.Words.{count_number}
 use Rattle.rows.proofs.count.Statement.{statement}
 use Rattle.rows.proofs.count.Tie as tie
 
@@ -48,7 +48,7 @@ loop-again c =
     let l = c.before.before.loop in (
       search rules,
       ap₂ (λ (n x : ℕ). n + ones x) l.invariant.1 c.word.ensures
-          ∙ sym (count-number row l.k 8 (λ j h. (c.before.before.before.shared-slice-known.given (l.k + j)).fits)),
+          ∙ sym (count_number row l.k 8 (λ j h. (c.before.before.before.shared-slice-known.given (l.k + j)).fits)),
     )
 
 count-by-bytes-requires : tie.Need-count-by-bytes-requires invariant-loop decreases-loop

@@ -8,7 +8,7 @@ use lib.Count.{count_trailing_zeros}
 use lib.Dec.{lit<}
 use Rattle.rows.specs.Next.{next_bit}
 use Rattle.rows.specs.declared.Found.TheVariants.{At}
-use Rattle.rows.proofs.Lowest.{place-fits, zeros_fit, next_in_number, next_skip, number-clear}
+use Rattle.rows.proofs.Lowest.{place_fits, zeros_fit, next_in_number, next_skip, number_clear}
 use Rattle.rows.proofs.next.Statement.{statement}
 use Rattle.rows.proofs.next.Tie as tie
 
@@ -40,7 +40,7 @@ cast-t13 : tie.Need-overflow-cast-t13 invariant-loop decreases-loop
 cast-t13 c = record { fits = zeros_fit 64 _ (lit< tt) }
 
 add-t14 : tie.Need-overflow-add-t14 invariant-loop decreases-loop
-add-t14 c = record { fits = place-fits 64 _ _ (omega (arith, c.before.before.before.before.before.requires)) }
+add-t14 c = record { fits = place_fits 64 _ _ (omega (arith, c.before.before.before.before.before.requires)) }
 
 returns : tie.Need-returns invariant-loop decreases-loop
 returns c =
@@ -72,7 +72,7 @@ loop-again c =
       omega (arith, c.before.before.before.before.before.requires),
       l.invariant.1
           ∙ next_skip row l.i (l.i / 64 * 64 + 64) (omega arith)
-          (λ a p q. number-clear row at 8 (l.i % 64) (λ j h. (c.before.before.before.before.shared-slice-known.given (at + j)).fits) (ap (λ (n : ℕ). n / 2 ^ (l.i % 64)) (sym c.before.word.ensures) ∙ c.if1.false) a (omega arith) (omega arith)),
+          (λ a p q. number_clear row at 8 (l.i % 64) (λ j h. (c.before.before.before.before.shared-slice-known.given (at + j)).fits) (ap (λ (n : ℕ). n / 2 ^ (l.i % 64)) (sym c.before.word.ensures) ∙ c.if1.false) a (omega arith) (omega arith)),
     )
 
 next-by-bytes-requires : tie.Need-next-by-bytes-requires invariant-loop decreases-loop

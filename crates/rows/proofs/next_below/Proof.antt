@@ -1,7 +1,7 @@
 -- `rows::next_below` meets its contract: what the search finds is below n, or nothing is.
 use native.Mathlib.Omega.{arith}
 use mathlib.Core.Path.{sym, ◌∙◌}
-use Rattle.rows.proofs.Lowest.{NextAt, at_next, none-next}
+use Rattle.rows.proofs.Lowest.{NextAt, at_next, none_next}
 use borrow.Author.Rules.{rules}
 use Rattle.rows.proofs.next_below.Statement.{statement}
 use Rattle.rows.proofs.next_below.Tie as tie
@@ -45,7 +45,7 @@ returns-3 c =
       within = omega arith;
       on = λ l. l;
       is_set = λ l. absurd (let z : ⊥ = omega arith in z);
-      none_between = λ k p q. none-next a.row.now a.from (sym c.before.before.next.ensures ∙ c.enum_told.given.1) k p;
+      none_between = λ k p q. none_next a.row.now a.from (sym c.before.before.next.ensures ∙ c.enum_told.given.1) k p;
     }
 
 pub next_below_spec : {M : Type 1} → statement M

@@ -9,7 +9,7 @@ use lib.Dec.{lit<}
 use Rattle.rows.specs.Next.{next_bit}
 use Rattle.rows.specs.declared.Found.TheVariants.{At}
 use Rattle.rows.proofs.Bits.{bit_past}
-use Rattle.rows.proofs.Lowest.{place-fits, zeros_fit, next_in_byte, next_skip, next-none, rest-clear}
+use Rattle.rows.proofs.Lowest.{place_fits, zeros_fit, next_in_byte, next_skip, next_none, rest_clear}
 use Rattle.rows.proofs.next_by_bytes.Statement.{statement}
 use Rattle.rows.proofs.next_by_bytes.Tie as tie
 
@@ -35,7 +35,7 @@ cast-t12 : tie.Need-overflow-cast-t12 invariant-loop decreases-loop
 cast-t12 c = record { fits = zeros_fit 8 _ (lit< tt) }
 
 add-t13 : tie.Need-overflow-add-t13 invariant-loop decreases-loop
-add-t13 c = record { fits = place-fits 8 _ _ (omega (arith, c.before.before.before.before.requires)) }
+add-t13 c = record { fits = place_fits 8 _ _ (omega (arith, c.before.before.before.before.requires)) }
 
 returns : tie.Need-returns invariant-loop decreases-loop
 returns c =
@@ -64,13 +64,13 @@ loop-again c =
     let i = c.before.before.before.loop.i in
     c.before.before.before.loop.invariant
     ∙ next_skip row i (i / 8 * 8 + 8) (omega arith)
-    (λ a p q. rest-clear row (i / 8) (i % 8) (omega arith) c.if1.false a (omega arith) (omega arith))
+    (λ a p q. rest_clear row (i / 8) (i % 8) (omega arith) c.if1.false a (omega arith) (omega arith))
 
 returns-2 : tie.Need-returns-2 invariant-loop decreases-loop
 returns-2 c =
     let row = c.before.before.args.row.now in
     let i = c.before.loop.i in
-    sym (c.before.loop.invariant ∙ next-none row i (λ a p. bit_past row a (omega arith)))
+    sym (c.before.loop.invariant ∙ next_none row i (λ a p. bit_past row a (omega arith)))
 
 pub next_by_bytes_spec : {M : Type 1} → statement M
 next_by_bytes_spec =

@@ -7,7 +7,7 @@ use lib.ListN.{length, get_or, length-set}
 use lib.Bits.{bit_or}
 use Rattle.rows.specs.Bits.{or_row}
 use Rattle.rows.proofs.Bits.{get_d_zip, length_zip}
-use Rattle.rows.proofs.Front.{Front, front-none, front-more, front-all}
+use Rattle.rows.proofs.Front.{Front, front_none, front_more, front_all}
 use Rattle.rows.proofs.or_into.Statement.{statement}
 use Rattle.rows.proofs.or_into.Tie as tie
 
@@ -18,7 +18,7 @@ abbrev decreases-loop : tie.decreases-loop
 decreases-loop row₀ other i₀ row i = length row - i
 
 loop-holds : tie.Need-loop-init invariant-loop decreases-loop
-loop-holds c = (search rules, front-none (or_row c.args.row.now c.args.other.now) c.args.row.now)
+loop-holds c = (search rules, front_none (or_row c.args.row.now c.args.other.now) c.args.row.now)
 
 shared-slice-read-row : tie.Need-shared-slice-read-row invariant-loop decreases-loop
 shared-slice-read-row c = omega (arith, c.before.before.loop.invariant.1.long, c.before.before.before.requires)
@@ -45,7 +45,7 @@ loop-again c =
     let front = c.before.before.before.loop.invariant.1 in
     let inside : i < length row₀ = omega (arith, front.long) in (
       omega arith,
-      front-more (or_row row₀ other) row₀ row i (bit_or (get_or row i 0) (get_or other i 0)) front inside
+      front_more (or_row row₀ other) row₀ row i (bit_or (get_or row i 0) (get_or other i 0)) front inside
           (ap (λ (x : ℕ). bit_or x (get_or other i 0)) (front.above i (omega arith)) ∙ sym (get_d_zip bit_or row₀ other i inside)),
     )
 
@@ -59,7 +59,7 @@ returns c =
     let other = c.before.before.args.other.now in
     let front = c.before.loop.invariant.1 in
     let ended : c.before.loop.i ≡ length row₀ = omega (arith, front.long) in
-    front-all (or_row row₀ other) row₀ c.before.loop.row (length_zip bit_or row₀ other)
+    front_all (or_row row₀ other) row₀ c.before.loop.row (length_zip bit_or row₀ other)
     (subst (λ (k : ℕ). Front (or_row row₀ other) row₀ c.before.loop.row k) ended front)
 
 pub or_into_spec : {M : Type 1} → statement M

@@ -1,7 +1,7 @@
 -- `rows::put_in_row` meets its contract: a bit set in the lent part is that bit of the whole.
 use Prim.Native.Nat.{◌+◌, ◌*◌}
 use native.Mathlib.Omega.{arith}
-use Rattle.rows.proofs.Bits.{set-part}
+use Rattle.rows.proofs.Bits.{set_part}
 use borrow.Author.Rules.{rules}
 use Rattle.rows.proofs.put_in_row.Statement.{statement}
 use Rattle.rows.proofs.put_in_row.Tie as tie
@@ -31,7 +31,7 @@ returns : tie.Need-returns
 returns c =
     let a = c.before.before.before.before.before.args in
     rw c.before.before.put.ensures
-    (set-part a.rows.now (a.r * a.w) (a.r * a.w + a.w) a.i (omega arith) (omega arith) (omega arith))
+    (set_part a.rows.now (a.r * a.w) (a.r * a.w + a.w) a.i (omega arith) (omega arith) (omega arith))
 
 pub put_in_row_spec : {M : Type 1} → statement M
 put_in_row_spec =

@@ -6,7 +6,7 @@ use lib.ListN.{length-take}
 use borrow.Author.Rules.{rules}
 use Rattle.rows.specs.Bits.{count_bits}
 use Rattle.layout.proofs.Sizes.{shape_sizes}
-use Rattle.layout.proofs.StoreRows.{rows_taken, taken-long}
+use Rattle.layout.proofs.StoreRows.{rows_taken, taken_long}
 use Rattle.store.proofs.Counts.{axiom_count_lem}
 use Rattle.store.proofs.axiom_count.Statement.{statement}
 use Rattle.store.proofs.axiom_count.Tie as tie
@@ -15,18 +15,18 @@ of-requires : tie.Need-of-requires
 of-requires c κs = search rules
 
 mul-end : tie.Need-overflow-mul-end
-mul-end c = omega (arith, (shape_sizes c.before.before.before.requires.sized.well_formed c.of.ensures).table-limit)
+mul-end c = omega (arith, (shape_sizes c.before.before.before.requires.sized.well_formed c.of.ensures).table_limit)
 
 slice-aggregate-count : tie.Need-slice-aggregate-count
 slice-aggregate-count c =
     let s = c.before.before.before.before in
-    taken-long s.args.b.now s.args.store.now c.before.of.ensures s.requires.sized.long
+    taken_long s.args.b.now s.args.store.now c.before.of.ensures s.requires.sized.long
 
 count-requires : tie.Need-count-requires
 count-requires c κs =
     let s = c.before.before.before.before in
     let n = c.before.of.result.concepts * c.before.of.result.width in
-    omega (arith, length-take n s.args.store.now, (shape_sizes s.requires.sized.well_formed c.before.of.ensures).table-limit)
+    omega (arith, length-take n s.args.store.now, (shape_sizes s.requires.sized.well_formed c.before.of.ensures).table_limit)
 
 returns : tie.Need-returns
 returns c =

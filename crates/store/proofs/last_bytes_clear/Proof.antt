@@ -5,10 +5,10 @@ use mathlib.Core.Path.{◌≡◌, sym, ap}
 use mathlib.Core.Bool.{false, not}
 use borrow.Author.Rules.{rules}
 use borrow.Author.Count.{below_none, below_more}
-use Rattle.rows.proofs.Counting.{some_at, some-none}
+use Rattle.rows.proofs.Counting.{some_at, some_none}
 use Rattle.rows.proofs.Places.{row_within}
 use Rattle.layout.specs.Parts.{set_from}
-use Rattle.store.proofs.LastBytes.{last-clear, last_set}
+use Rattle.store.proofs.LastBytes.{last_clear, last_set}
 use Rattle.store.proofs.last_bytes_clear.Statement.{statement}
 use Rattle.store.proofs.last_bytes_clear.Tie as tie
 
@@ -57,12 +57,12 @@ loop-again c =
     let s = c.before.before.before.before in
     let a = s.args in
     let r = c.before.before.before.loop.r in
-    (search rules, below_more _ _ c.before.before.before.loop.invariant.1 (last-clear a.w r a.i a.rows.now s.requires.below s.requires.last c.if1.false))
+    (search rules, below_more _ _ c.before.before.before.loop.invariant.1 (last_clear a.w r a.i a.rows.now s.requires.below s.requires.last c.if1.false))
 
 returns-2 : tie.Need-returns-2 invariant-loop decreases-loop
 returns-2 c =
     let a = c.before.before.args in
-    sym (ap not (some-none (set_from a.w a.i a.rows.now) a.count (λ k l. c.before.loop.invariant.1 k (omega arith))))
+    sym (ap not (some_none (set_from a.w a.i a.rows.now) a.count (λ k l. c.before.loop.invariant.1 k (omega arith))))
 
 pub last_bytes_clear_spec : {M : Type 1} → statement M
 last_bytes_clear_spec =

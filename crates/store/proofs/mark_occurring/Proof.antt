@@ -9,9 +9,9 @@ use Rattle.rules.specs.Occurrence.{occurs}
 use Rattle.layout.specs.Layout.{shape_of, table}
 use Rattle.occurrence.specs.Marking.{InTable}
 use Rattle.layout.specs.Parts.{width, axiom_rows, in_force, Clear}
-use Rattle.layout.proofs.StoreSizes.{table-long, width_fits}
+use Rattle.layout.proofs.StoreSizes.{table_long, width_fits}
 use Rattle.layout.proofs.Sizes.{shape_sizes}
-use Rattle.layout.proofs.StoreRows.{rows_taken, rows_long, taken-long, in_force_range}
+use Rattle.layout.proofs.StoreRows.{rows_taken, rows_long, taken_long, in_force_range}
 use Rattle.store.proofs.mark_occurring.Statement.{statement}
 use Rattle.store.proofs.mark_occurring.Tie as tie
 
@@ -20,7 +20,7 @@ unfolding in_force shape_of width
 in_table b store row h long =
     record {
       well_formed = h.sized.well_formed;
-      rows = record { axioms-long = rows_long b store h.sized.long ∙ sym (table-long b); row-long = long; room = (width_fits b).0 };
+      rows = record { axioms_long = rows_long b store h.sized.long ∙ sym (table_long b); row_long = long; room = (width_fits b).0 };
       range = in_force_range b store h.spare;
     }
 
@@ -28,12 +28,12 @@ of-requires : tie.Need-of-requires
 of-requires c κs = search rules
 
 mul-end : tie.Need-overflow-mul-end
-mul-end c = omega (arith, (shape_sizes c.before.before.before.before.requires.0.sized.well_formed c.of.ensures).table-limit)
+mul-end c = omega (arith, (shape_sizes c.before.before.before.before.requires.0.sized.well_formed c.of.ensures).table_limit)
 
 slice-aggregate-occurs : tie.Need-slice-aggregate-occurs
 slice-aggregate-occurs c =
     let s = c.before.before.before.before.before in
-    taken-long s.args.b.now s.args.store.now c.before.of.ensures s.requires.0.sized.long
+    taken_long s.args.b.now s.args.store.now c.before.of.ensures s.requires.0.sized.long
 
 occurs-requires : tie.Need-occurs-requires
 occurs-requires c κs =

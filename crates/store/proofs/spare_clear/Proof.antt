@@ -8,7 +8,7 @@ use borrow.Author.Rules.{rules}
 use Rattle.catalogue.specs.Header.{concepts}
 use Rattle.rows.specs.Bits.{some_below}
 use Rattle.layout.specs.Parts.{width, set_from, spare_clear}
-use Rattle.layout.proofs.StoreSizes.{used-rows, width_fits, rows-limit}
+use Rattle.layout.proofs.StoreSizes.{used_rows, width_fits, rows_limit}
 use Rattle.layout.proofs.Sizes.{shape_sizes, shape_rows, shape_concepts, shape_width}
 use Rattle.layout.proofs.StoreRows.{no_spare}
 use Rattle.store.proofs.spare_clear.Statement.{statement}
@@ -25,12 +25,12 @@ returns c =
     sym (no_spare b s.args.store.now (omega (arith, c.if1.true, shape_concepts b e)))
 
 add-last-bytes-clear : tie.Need-overflow-add-last-bytes-clear
-add-last-bytes-clear c = omega (arith, (shape_sizes c.before.before.before.before.requires.well_formed c.before.of.ensures).roles-limit)
+add-last-bytes-clear c = omega (arith, (shape_sizes c.before.before.before.before.requires.well_formed c.before.of.ensures).roles_limit)
 
 mul-last-bytes-clear : tie.Need-overflow-mul-last-bytes-clear
 mul-last-bytes-clear c =
     let s = c.before.before.before.before in
-    omega (arith, shape_rows s.args.b.now c.before.of.ensures, rows-limit s.requires.well_formed)
+    omega (arith, shape_rows s.args.b.now c.before.of.ensures, rows_limit s.requires.well_formed)
 
 last-bytes-clear-requires : tie.Need-last-bytes-clear-requires
 last-bytes-clear-requires c κs =
@@ -43,7 +43,7 @@ last-bytes-clear-requires c κs =
     record {
       below = omega (arith, width_fits b);
       last = omega (arith, width_fits b);
-      long = subst₂ (λ (r w : ℕ). r * w ≤ length s.args.store.now) (sym (shape_rows b e)) (sym w) (omega (arith, used-rows b, s.requires.long));
+      long = subst₂ (λ (r w : ℕ). r * w ≤ length s.args.store.now) (sym (shape_rows b e)) (sym w) (omega (arith, used_rows b, s.requires.long));
     }
 
 returns-2 : tie.Need-returns-2

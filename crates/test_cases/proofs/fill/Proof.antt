@@ -4,7 +4,7 @@ use Prim.Native.Nat.{◌-◌, ◌≤◌, ◌<◌}
 use native.Mathlib.Omega.{arith}
 use borrow.Author.Rules.{rules}
 use lib.ListN.{length, replicate, length-set, length-replicate, get_or-replicate}
-use Rattle.rows.proofs.Front.{Front, front-none, front-more}
+use Rattle.rows.proofs.Front.{Front, front_none, front_more}
 use Rattle.row_steps.proofs.ByteRows.{front_end}
 use Rattle.test_cases.proofs.fill.Statement.{statement}
 use Rattle.test_cases.proofs.fill.Tie as tie
@@ -16,7 +16,7 @@ abbrev decreases-loop : tie.decreases-loop
 decreases-loop buffer₀ byte i₀ buffer i = length buffer - i
 
 loop-holds : tie.Need-loop-init invariant-loop decreases-loop
-loop-holds c = (search rules, front-none (replicate (length c.args.buffer.now) c.args.byte) c.args.buffer.now)
+loop-holds c = (search rules, front_none (replicate (length c.args.buffer.now) c.args.byte) c.args.buffer.now)
 
 slice-write-buffer : tie.Need-slice-write-buffer invariant-loop decreases-loop
 slice-write-buffer c = search rules
@@ -33,7 +33,7 @@ loop-again c =
     let l = c.before.loop in
     let inside : l.i < length q.buffer.now = omega (arith, l.invariant.1.long) in (
       omega arith,
-      front-more (replicate (length q.buffer.now) q.byte) q.buffer.now l.buffer l.i q.byte l.invariant.1 inside
+      front_more (replicate (length q.buffer.now) q.byte) q.buffer.now l.buffer l.i q.byte l.invariant.1 inside
           (sym (get_or-replicate (length q.buffer.now) l.i q.byte 0 inside)),
     )
 

@@ -2,7 +2,7 @@
 use Prim.Native.Nat.{ℕ, ◌+◌}
 use native.Mathlib.Omega.{arith}
 use mathlib.Core.Path.{ap}
-use Rattle.text.proofs.Appending.{overwritten-part, appended}
+use Rattle.text.proofs.Appending.{overwritten_part, appended}
 use borrow.Author.Rules.{rules}
 use Rattle.text.proofs.put_text.Statement.{statement}
 use Rattle.text.proofs.put_text.Tie as tie
@@ -30,7 +30,7 @@ returns c =
     let a = c.before.before.before.before.before.before.args in
     let e = c.before.before.copy.ensures in
     appended _ _ _ _ _ (omega (arith, c.before.before.before.before.before.before.requires)) (ap (λ (k : ℕ). a.at + k) e.0)
-    (rw e.1 (overwritten-part a.out.now a.at a.text.now))
+    (rw e.1 (overwritten_part a.out.now a.at a.text.now))
 
 pub put_text_spec : {M : Type 1} → statement M
 put_text_spec =

@@ -5,7 +5,7 @@ use lib.ListN.{length, take, drop}
 use Rattle.catalogue.specs.Header.{axioms_at}
 use Rattle.layout.specs.Layout.{shape_of}
 use Rattle.store.specs.Written.{set_word}
-use Rattle.writing.proofs.Whole.{counted, front-is, table_fits, whole}
+use Rattle.writing.proofs.Whole.{counted, front_is, table_fits, whole}
 use borrow.Author.Rules.{rules}
 use Rattle.writing.proofs.put_catalogue.Statement.{statement}
 use Rattle.writing.proofs.put_catalogue.Tie as tie
@@ -50,7 +50,7 @@ returns c =
     let a = c.before.before.before.before.before.before.before.before.before.before.before.before.before.before.before.before.before.before.before.before.before.args in
     let ready : c.before.before.before.before.before.before.put-number2.new.0 ≡ counted a.b.now a.count (take (axioms_at a.b.now) a.b.now) ++ drop (axioms_at a.b.now) a.out.now =
     rw (c.before.before.before.before.before.before.put-number2.ensures, c.before.before.before.before.before.before.before.before.before.before.put-number.ensures, c.before.before.before.before.before.before.before.before.before.before.before.before.before.before.copy-numbers.ensures, c.before.before.before.before.before.before.before.before.before.before.before.before.before.before.before.before.before.axioms-at.ensures)
-    (front-is a.b.now a.store.now a.count a.out.now c.before.before.before.before.before.before.before.before.before.before.before.before.before.before.before.before.before.before.before.before.before.requires)
+    (front_is a.b.now a.store.now a.count a.out.now c.before.before.before.before.before.before.before.before.before.before.before.before.before.before.before.before.before.before.before.before.before.requires)
     in
     whole a.b.now a.store.now a.count a.out.now c.before.before.before.before.before.before.before.before.before.before.before.before.before.before.before.before.before.before.before.before.before.requires c.before.before.before.before.before.before.put-number2.new.0 ready c.before.before.put-table.new.1.1.1.0
     (rw (c.before.before.before.before.before.before.before.before.before.before.before.before.before.before.before.before.of.ensures, c.before.before.before.before.before.before.before.before.before.before.before.before.before.before.before.before.before.axioms-at.ensures) at c.before.before.put-table.ensures)

@@ -1,7 +1,7 @@
 -- `writing::put_row` meets its contract: before each turn the records of the right sides passed are written.
 use Prim.Native.Nat.{◌-◌}
 use native.Mathlib.Omega.{arith}
-use Rattle.writing.proofs.Recording.{RowState, row-begins, row_goes_on, row_room, row_ends}
+use Rattle.writing.proofs.Recording.{RowState, row_begins, row_goes_on, row_room, row_ends}
 use Rattle.writing.proofs.put_row.Statement.{statement}
 use Rattle.writing.proofs.put_row.Tie as tie
 
@@ -12,12 +12,12 @@ abbrev decreases-loop : tie.decreases-loop
 decreases-loop row n left out₀ start at₀ right₀ out at right = n - right
 
 next-below-requires : tie.Need-next-below-requires invariant-loop decreases-loop
-next-below-requires c κs = c.before.before.requires.row-short
+next-below-requires c κs = c.before.before.requires.row_short
 
 loop-holds : tie.Need-loop-init invariant-loop decreases-loop
 loop-holds c =
     let a = c.before.before.before.args in
-    row-begins a.row.now a.n a.left a.out.now a.start c.next-below.result c.next-below.ensures
+    row_begins a.row.now a.n a.left a.out.now a.start c.next-below.result c.next-below.ensures
 
 put-axiom-requires : tie.Need-put-axiom-requires invariant-loop decreases-loop
 put-axiom-requires c κs =
@@ -38,7 +38,7 @@ add-next-below : tie.Need-overflow-add-next-below invariant-loop decreases-loop
 add-next-below c = omega (arith, c.before.before.before.before.before.before.before.before.before.requires.number_fits, c.before.before.before.before.loop-test.true)
 
 next-below-requires-2 : tie.Need-next-below-requires-2 invariant-loop decreases-loop
-next-below-requires-2 c κs = c.before.before.before.before.before.before.before.before.before.requires.row-short
+next-below-requires-2 c κs = c.before.before.before.before.before.before.before.before.before.requires.row_short
 
 loop-less : tie.Need-loop-smaller invariant-loop decreases-loop
 loop-less c =

@@ -3,7 +3,7 @@ use borrow.Author.Rules.{rules}
 use Prim.Native.Nat.{◌-◌}
 use native.Mathlib.Omega.{arith}
 use Rattle.rows.proofs.Places.{row_within}
-use Rattle.writing.proofs.Tabling.{TableState, table-begins, row_fits, table_goes_on, table-ends}
+use Rattle.writing.proofs.Tabling.{TableState, table_begins, row_fits, table_goes_on, table_ends}
 use Rattle.writing.proofs.put_table.Statement.{statement}
 use Rattle.writing.proofs.put_table.Tie as tie
 
@@ -16,7 +16,7 @@ decreases-loop rows n w out₀ start at₀ left₀ out at left = n - left
 loop-holds : tie.Need-loop-init invariant-loop decreases-loop
 loop-holds c =
     let a = c.before.before.args in
-    table-begins a.rows.now a.n a.w a.out.now a.start
+    table_begins a.rows.now a.n a.w a.out.now a.start
 
 mul-from : tie.Need-overflow-mul-from invariant-loop decreases-loop
 mul-from c = omega (arith, row_within c.before.before.before.before.args.w c.before.loop.left c.before.before.before.before.args.n c.loop-test.true, c.before.before.before.before.requires.rows_long)
@@ -56,7 +56,7 @@ same_length c = c.before.loop.invariant.long
 returns : tie.Need-returns invariant-loop decreases-loop
 returns c =
     let a = c.before.before.before.before.args in
-    table-ends a.rows.now a.n a.w a.out.now a.start c.before.before.before.before.requires c.before.loop.out c.before.loop.at c.before.loop.left c.before.loop.invariant c.loop-test.false
+    table_ends a.rows.now a.n a.w a.out.now a.start c.before.before.before.before.requires c.before.loop.out c.before.loop.at c.before.loop.left c.before.loop.invariant c.loop-test.false
 
 pub put_table_spec : {M : Type 1} → statement M
 put_table_spec =

@@ -2,7 +2,7 @@
 use mathlib.Core.Path.{sym, ap, ◌∙◌}
 use Rattle.catalogue.specs.Verdicts.{outcome_of}
 use Rattle.catalogue.proofs.Accepted.{accepted_well_formed}
-use Rattle.writing.proofs.Order.{catalogue-first, catalogue-refused}
+use Rattle.writing.proofs.Order.{catalogue_first, catalogue_refused}
 use borrow.Author.Rules.{rules}
 use Rattle.writing.proofs.write.Statement.{statement}
 use Rattle.writing.proofs.write.Tie as tie
@@ -22,7 +22,7 @@ write-checked-requires c κs = accepted_well_formed (sym c.before.before.before.
 returns : tie.Need-returns
 returns c =
     let a = c.before.before.before.before.before.before.before.args in
-    catalogue-refused a.b.now a.store.now a.output.now c.before.number.given.0.0 c.before.number.given.0.1.0
+    catalogue_refused a.b.now a.store.now a.output.now c.before.number.given.0.0 c.before.number.given.0.1.0
     (sym c.before.before.before.check.ensures ∙ ap outcome_of c.before.number.given.1)
 
 same_length : tie.Need-same-length
@@ -31,7 +31,7 @@ same_length c = search rules
 returns-2 : tie.Need-returns-2
 returns-2 c =
     let a = c.before.before.before.before.before.before.before.before.before.before.args in
-    catalogue-first a.b.now a.store.now a.output.now c.before.before.write_checked.result c.before.before.write_checked.new.1.1.0
+    catalogue_first a.b.now a.store.now a.output.now c.before.before.write_checked.result c.before.before.write_checked.new.1.1.0
     (sym c.before.before.before.before.before.before.check.ensures ∙ ap outcome_of c.before.before.before.before.enum_told.given.1) c.before.before.write_checked.ensures
 
 pub write_spec : {M : Type 1} → statement M

@@ -14,7 +14,7 @@ use Rattle.store.specs.Checks.{store_fits, axioms_in_limit}
 use Rattle.store.specs.Written.{axiom_count, written}
 use Rattle.store.proofs.Written.{length-written}
 use Rattle.writing.specs.Write.{output_fits}
-use Rattle.writing.proofs.Order.{stops_10, stops_13, stops_14, stops_20, writes-all}
+use Rattle.writing.proofs.Order.{stops_10, stops_13, stops_14, stops_20, writes_all}
 use borrow.Author.Rules.{rules}
 use Rattle.writing.proofs.write_checked.Statement.{statement}
 use Rattle.writing.proofs.write_checked.Tie as tie
@@ -33,22 +33,22 @@ clear b store wf e f = record { sized = sized b store wf e; spare = f }
 returns : tie.Need-returns
 returns c =
     let a = c.before.before.before.before.before.args in
-    stops_10 a.b.now a.store.now a.output.now (sym c.before.store-fits.ensures ∙ not-true _ c.if1.true)
+    stops_10 a.b.now a.store.now a.output.now (sym c.before.store_fits.ensures ∙ not-true _ c.if1.true)
 
 spare-clear-requires : tie.Need-spare-clear-requires
 spare-clear-requires c κs =
     let a = c.before.before.before.before.before.args in
-    sized a.b.now a.store.now c.before.before.before.before.before.requires (sym c.before.store-fits.ensures ∙ not-false _ c.if1.false)
+    sized a.b.now a.store.now c.before.before.before.before.before.requires (sym c.before.store_fits.ensures ∙ not-false _ c.if1.false)
 
 returns-2 : tie.Need-returns-2
 returns-2 c =
     let a = c.before.before.before.before.before.before.before.args in
-    stops_13 a.b.now a.store.now a.output.now (sym c.before.before.before.store-fits.ensures ∙ not-false _ c.before.before.if1.false) (sym c.before.spare-clear.ensures ∙ not-true _ c.if2.true)
+    stops_13 a.b.now a.store.now a.output.now (sym c.before.before.before.store_fits.ensures ∙ not-false _ c.before.before.if1.false) (sym c.before.spare_clear.ensures ∙ not-true _ c.if2.true)
 
 axiom-count-requires : tie.Need-axiom-count-requires
 axiom-count-requires c κs =
     let a = c.before.before.before.before.before.before.before.args in
-    clear a.b.now a.store.now c.before.before.before.before.before.before.before.requires (sym c.before.before.before.store-fits.ensures ∙ not-false _ c.before.before.if1.false) (sym c.before.spare-clear.ensures ∙ not-false _ c.if2.false)
+    clear a.b.now a.store.now c.before.before.before.before.before.before.before.requires (sym c.before.before.before.store_fits.ensures ∙ not-false _ c.before.before.if1.false) (sym c.before.spare_clear.ensures ∙ not-false _ c.if2.false)
 
 -- question 14 by the count
 in_limit : (b store : List ℕ) {count : ℕ} → count ≡ axiom_count b (in_force b store) → count ≤ 4096 → axioms_in_limit b (in_force b store) ≡ true
@@ -62,14 +62,14 @@ past_limit b store e l = lt-leb (axiom_count b (in_force b store)) 4096 (omega (
 returns-3 : tie.Need-returns-3
 returns-3 c =
     let a = c.before.before.before.before.before.before.before.before.before.args in
-    stops_14 a.b.now a.store.now a.output.now (sym c.before.before.before.before.before.store-fits.ensures ∙ not-false _ c.before.before.before.before.if1.false) (sym c.before.before.before.spare-clear.ensures ∙ not-false _ c.before.before.if2.false) (past_limit a.b.now a.store.now c.before.axiom_count_lem.ensures c.if3.true)
+    stops_14 a.b.now a.store.now a.output.now (sym c.before.before.before.before.before.store_fits.ensures ∙ not-false _ c.before.before.before.before.if1.false) (sym c.before.before.before.spare_clear.ensures ∙ not-false _ c.before.before.if2.false) (past_limit a.b.now a.store.now c.before.axiom_count_lem.ensures c.if3.true)
 
 axioms-at-requires : tie.Need-axioms-at-requires
 axioms-at-requires c κs = search rules
 
 -- how long the written catalogue is
 start_small : (b : List ℕ) → WellFormed b → axioms_at b ≤ 65536
-start_small b wf = omega (arith, wf.axioms-start, wf.compositions-start, wf.inclusions-start, wf.concepts-limit, wf.inclusions-limit, wf.compositions-limit)
+start_small b wf = omega (arith, wf.axioms_start, wf.compositions_start, wf.inclusions_start, wf.concepts_limit, wf.inclusions_limit, wf.compositions_limit)
 
 mul-end : tie.Need-overflow-mul-end
 mul-end c = omega (arith, c.before.if3.false)
@@ -89,7 +89,7 @@ unfolding output_fits
 returns-4 c =
     let a = c.before.before.before.before.before.before.before.before.before.before.before.args in
     let is = long a.b.now a.store.now c.before.axioms-at.result c.before.before.before.axiom_count_lem.result c.before.before.before.before.before.before.before.before.before.before.before.requires c.before.axioms-at.ensures c.before.before.before.axiom_count_lem.ensures in
-    stops_20 a.b.now a.store.now a.output.now (sym c.before.before.before.before.before.before.before.store-fits.ensures ∙ not-false _ c.before.before.before.before.before.before.if1.false) (sym c.before.before.before.before.before.spare-clear.ensures ∙ not-false _ c.before.before.before.before.if2.false) (in_limit a.b.now a.store.now c.before.before.before.axiom_count_lem.ensures (omega (arith, c.before.before.if3.false))) (lt-leb (length (written a.b.now (in_force a.b.now a.store.now))) (length a.output.now) (omega (arith, is, c.if4.true)))
+    stops_20 a.b.now a.store.now a.output.now (sym c.before.before.before.before.before.before.before.store_fits.ensures ∙ not-false _ c.before.before.before.before.before.before.if1.false) (sym c.before.before.before.before.before.spare_clear.ensures ∙ not-false _ c.before.before.before.before.if2.false) (in_limit a.b.now a.store.now c.before.before.before.axiom_count_lem.ensures (omega (arith, c.before.before.if3.false))) (lt-leb (length (written a.b.now (in_force a.b.now a.store.now))) (length a.output.now) (omega (arith, is, c.if4.true)))
 
 slice-relend-prefix-put-catalogue : tie.Need-slice-relend-prefix-put-catalogue
 slice-relend-prefix-put-catalogue c = search rules
@@ -101,8 +101,8 @@ put-catalogue-requires : tie.Need-put-catalogue-requires
 put-catalogue-requires c κs =
     let a = c.before.before.before.before.before.before.before.before.before.before.before.before.args in
     record {
-      clear = clear a.b.now a.store.now c.before.before.before.before.before.before.before.before.before.before.before.before.requires (sym c.before.before.before.before.before.before.before.before.store-fits.ensures ∙ not-false _ c.before.before.before.before.before.before.before.if1.false) (sym c.before.before.before.before.before.before.spare-clear.ensures ∙ not-false _ c.before.before.before.before.before.if2.false);
-      count-is = c.before.before.before.before.axiom_count_lem.ensures;
+      clear = clear a.b.now a.store.now c.before.before.before.before.before.before.before.before.before.before.before.before.requires (sym c.before.before.before.before.before.before.before.before.store_fits.ensures ∙ not-false _ c.before.before.before.before.before.before.before.if1.false) (sym c.before.before.before.before.before.before.spare_clear.ensures ∙ not-false _ c.before.before.before.before.before.if2.false);
+      count_is = c.before.before.before.before.axiom_count_lem.ensures;
       limit = omega (arith, c.before.before.before.if3.false);
       out_long = length-take-le _ _ (omega (arith, c.before.if4.false)) ∙ ap (λ (k : ℕ). k + 4 * c.before.before.before.before.axiom_count_lem.result) c.before.before.axioms-at.ensures;
     }
@@ -116,7 +116,7 @@ returns-5 c =
     let a = c.before.before.before.before.before.before.before.before.before.before.before.before.before.before.before.args in
     let end = c.before.before.before.before.before.axioms-at.result + 4 * c.before.before.before.before.before.before.before.axiom_count_lem.result in
     let is = long a.b.now a.store.now c.before.before.before.before.before.axioms-at.result c.before.before.before.before.before.before.before.axiom_count_lem.result c.before.before.before.before.before.before.before.before.before.before.before.before.before.before.before.requires c.before.before.before.before.before.axioms-at.ensures c.before.before.before.before.before.before.before.axiom_count_lem.ensures in
-    writes-all a.b.now a.store.now a.output.now (sym c.before.before.before.before.before.before.before.before.before.before.before.store-fits.ensures ∙ not-false _ c.before.before.before.before.before.before.before.before.before.before.if1.false) (sym c.before.before.before.before.before.before.before.before.before.spare-clear.ensures ∙ not-false _ c.before.before.before.before.before.before.before.before.if2.false) (in_limit a.b.now a.store.now c.before.before.before.before.before.before.before.axiom_count_lem.ensures (omega (arith, c.before.before.before.before.before.before.if3.false))) (le-leb (length (written a.b.now (in_force a.b.now a.store.now))) (length a.output.now) (omega (arith, is, c.before.before.before.before.if4.false)))
+    writes_all a.b.now a.store.now a.output.now (sym c.before.before.before.before.before.before.before.before.before.before.before.store_fits.ensures ∙ not-false _ c.before.before.before.before.before.before.before.before.before.before.if1.false) (sym c.before.before.before.before.before.before.before.before.before.spare_clear.ensures ∙ not-false _ c.before.before.before.before.before.before.before.before.if2.false) (in_limit a.b.now a.store.now c.before.before.before.before.before.before.before.axiom_count_lem.ensures (omega (arith, c.before.before.before.before.before.before.if3.false))) (le-leb (length (written a.b.now (in_force a.b.now a.store.now))) (length a.output.now) (omega (arith, is, c.before.before.before.before.if4.false)))
     end (c.before.before.put-catalogue.new.1.1.1.0 ++ drop end a.output.now) is
     (ap (λ (l : List ℕ). l ++ drop end a.output.now) c.before.before.put-catalogue.ensures)
 

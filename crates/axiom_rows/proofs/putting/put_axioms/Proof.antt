@@ -6,7 +6,7 @@ use mathlib.Core.List.{◌++◌}
 use lib.ListN.{length, take, drop}
 use lib.Seq.{take_at}
 use Rattle.rows.proofs.RowParts.{prefix_long, front_of}
-use Rattle.axiom_rows.proofs.Cleared.{puts-axioms, copied-rows}
+use Rattle.axiom_rows.proofs.Cleared.{puts-axioms, copied_rows}
 use borrow.Author.Rules.{rules}
 use Rattle.axiom_rows.proofs.putting.put_axioms.Statement.{statement}
 use Rattle.axiom_rows.proofs.putting.put_axioms.Tie as tie
@@ -94,12 +94,12 @@ returns c =
     let copied = c.before.before.copy in
     puts-axioms {n = length (take k store)}
     (record {
-      table-long = entry.requires.2;
-      zeros-are = cleared.ensures;
-      zeros-long = long;
+      table_long = entry.requires.2;
+      zeros_are = cleared.ensures;
+      zeros_long = long;
       rows_long = rows_long;
       marks = marked.ensures;
-      copied_is = copied-rows k _ marked.new.1.1.0 (drop k (cleared.new.0 ++ drop k store)) entry.args.table.now copied.new.1.0 rows_long refl refl copied.ensures.1;
+      copied_is = copied_rows k _ marked.new.1.1.0 (drop k (cleared.new.0 ++ drop k store)) entry.args.table.now copied.new.1.0 rows_long refl refl copied.ensures.1;
     })
 
 pub put_axioms_spec : {M : Type 1} → statement M

@@ -4,7 +4,7 @@ use Prim.Native.Nat.{ℕ}
 use Rattle.change_contract.specs.Edits.{lend}
 use Rattle.call_lists.specs.Requests.{request_by}
 use Rattle.call_lists.proofs.Listed.{changes}
-use Rattle.call_lists.proofs.Answered.{answers-classify, answers-change}
+use Rattle.call_lists.proofs.Answered.{answers_classify, answers_change}
 use borrow.Author.Rules.{rules}
 use Rattle.call_lists.proofs.answers.call.Statement.{statement}
 use Rattle.call_lists.proofs.answers.call.Tie as tie
@@ -37,7 +37,7 @@ returns c =
     let kind = c.before.before.before.before.before.before.before.before.before.before.before.match.keys1 in
     let gave = c.before.before.before.before.before.before.before.before.classify in
     let entered = c.before.before.enter-classified in
-    answers-classify (request_by a.kind a.withdrawn.now a.added.now) a.b.now a.store.now a.work.now a.list.now gave.result gave.new.1.0 gave.new.1.1.0
+    answers_classify (request_by a.kind a.withdrawn.now a.added.now) a.b.now a.store.now a.work.now a.list.now gave.result gave.new.1.0 gave.new.1.1.0
     entered.new.1.0 (ap (λ (k : ℕ). request_by k a.withdrawn.now a.added.now) kind) gave.ensures entered.ensures
 
 same-length-4 : tie.Need-same-length-4
@@ -58,7 +58,7 @@ returns-2 c =
     let other = c.before.before.before.before.before.before.before.before.before.before.before.before.before.before.match.rest in
     let gave = c.before.before.before.before.before.before.before.before.before.before.change in
     let entered = c.before.before.enter-changed in
-    answers-change (request_by a.kind a.withdrawn.now a.added.now) a.b.now a.withdrawn.now a.added.now (lend a.store.now a.work.now a.list.now) gave.result
+    answers_change (request_by a.kind a.withdrawn.now a.added.now) a.b.now a.withdrawn.now a.added.now (lend a.store.now a.work.now a.list.now) gave.result
     (lend gave.new.1.1.1.0 gave.new.1.1.1.1.0 gave.new.1.1.1.1.1.0) entered.new.1.0
     (changes a.kind a.withdrawn.now a.added.now other.1) gave.ensures entered.ensures
 

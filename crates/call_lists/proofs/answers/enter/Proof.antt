@@ -2,7 +2,7 @@
 use native.Mathlib.Omega.{arith}
 use mathlib.Core.List.{[], ◌∷◌}
 use lib.ListN.{length-set}
-use Rattle.call_lists.proofs.Parts.{all-written}
+use Rattle.call_lists.proofs.Parts.{all_written}
 use borrow.Author.Rules.{rules}
 use Rattle.call_lists.proofs.answers.enter.Statement.{statement}
 use Rattle.call_lists.proofs.answers.enter.Tie as tie
@@ -29,7 +29,7 @@ same_length : tie.Need-same-length
 same_length c = search rules
 
 returns : tie.Need-returns
-returns c = let a = c.args in all-written (a.number ∷ a.at ∷ a.p ∷ a.q ∷ a.r ∷ a.s ∷ []) a.entries.now c.requires
+returns c = let a = c.args in all_written (a.number ∷ a.at ∷ a.p ∷ a.q ∷ a.r ∷ a.s ∷ []) a.entries.now c.requires
 
 pub enter_spec : {M : Type 1} → statement M
 enter_spec =

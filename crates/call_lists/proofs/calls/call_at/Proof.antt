@@ -6,15 +6,15 @@ use mathlib.Core.List.{List}
 use Rattle.catalogue.specs.Words.{word}
 use Rattle.call_lists.specs.Requests.{part_of, gone_at, new_at}
 use Rattle.call_lists.specs.Running.{space}
-use Rattle.call_lists.proofs.Listed.{right-at}
+use Rattle.call_lists.proofs.Listed.{right_at}
 use Rattle.call_lists.proofs.Answered.{answers_at}
 use borrow.Author.Rules.{rules}
 use Rattle.call_lists.proofs.calls.call_at.Statement.{statement}
 use Rattle.call_lists.proofs.calls.call_at.Tie as tie
 
 -- A part of another length that is the same.
-part-is : (a w v : ℕ) (xs : List ℕ) → w ≡ v → part_of a w xs ≡ part_of a v xs
-part-is a w v xs e = ap (λ (n : ℕ). part_of a n xs) e
+part_is : (a w v : ℕ) (xs : List ℕ) → w ≡ v → part_of a w xs ≡ part_of a v xs
+part_is a w v xs e = ap (λ (n : ℕ). part_of a n xs) e
 
 mul_at : tie.Need-overflow-mul-at
 mul_at c = search rules
@@ -22,56 +22,56 @@ mul_at c = search rules
 shared-slice-read-kind : tie.Need-shared-slice-read-kind
 shared-slice-read-kind c =
     let z = c.before.before.before.before.before.before.before in
-    let r = right-at _ _ _ _ z.requires.0 z.requires.1 in
+    let r = right_at _ _ _ _ z.requires.0 z.requires.1 in
     omega (arith, r.whole)
 
 add-out : tie.Need-overflow-add-out
 add-out c =
     let z = c.before.before.before.before.before.before.before in
-    let r = right-at _ _ _ _ z.requires.0 z.requires.1 in
+    let r = right_at _ _ _ _ z.requires.0 z.requires.1 in
     omega (arith, r.whole)
 
 add-word : tie.Need-overflow-add-word
 add-word c =
     let z = c.before.before.before.before.before.before.before in
-    let r = right-at _ _ _ _ z.requires.0 z.requires.1 in
+    let r = right_at _ _ _ _ z.requires.0 z.requires.1 in
     omega (arith, r.whole)
 
 word-requires : tie.Need-word-requires
 word-requires c κs =
     let z = c.before.before.before.before.before.before.before in
-    let r = right-at _ _ _ _ z.requires.0 z.requires.1 in
+    let r = right_at _ _ _ _ z.requires.0 z.requires.1 in
     omega (arith, r.whole)
 
 add-out-end : tie.Need-overflow-add-out-end
 add-out-end c =
     let z = c.before.before.before.before.before.before.before.before in
-    let r = right-at _ _ _ _ z.requires.0 z.requires.1 in
-    omega (arith, r.whole, r.gone-fits, c.word.ensures)
+    let r = right_at _ _ _ _ z.requires.0 z.requires.1 in
+    omega (arith, r.whole, r.gone_fits, c.word.ensures)
 
 add-put : tie.Need-overflow-add-put
 add-put c =
     let z = c.before.before.before.before.before.before.before.before in
-    let r = right-at _ _ _ _ z.requires.0 z.requires.1 in
+    let r = right_at _ _ _ _ z.requires.0 z.requires.1 in
     omega (arith, r.whole)
 
 add-word-2 : tie.Need-overflow-add-word-2
 add-word-2 c =
     let z = c.before.before.before.before.before.before.before.before in
-    let r = right-at _ _ _ _ z.requires.0 z.requires.1 in
+    let r = right_at _ _ _ _ z.requires.0 z.requires.1 in
     omega (arith, r.whole)
 
 word-requires-2 : tie.Need-word-requires-2
 word-requires-2 c κs =
     let z = c.before.before.before.before.before.before.before.before in
-    let r = right-at _ _ _ _ z.requires.0 z.requires.1 in
+    let r = right_at _ _ _ _ z.requires.0 z.requires.1 in
     omega (arith, r.whole)
 
 add-put-end : tie.Need-overflow-add-put-end
 add-put-end c =
     let z = c.before.before.before.before.before.before.before.before.before in
-    let r = right-at _ _ _ _ z.requires.0 z.requires.1 in
-    omega (arith, r.whole, r.new-fits, c.word2.ensures)
+    let r = right_at _ _ _ _ z.requires.0 z.requires.1 in
+    omega (arith, r.whole, r.new_fits, c.word2.ensures)
 
 mul-list : tie.Need-overflow-mul-list
 mul-list c = search rules
@@ -88,38 +88,38 @@ add-entry-end c = search rules
 sub-call : tie.Need-overflow-sub-call
 sub-call c =
     let z = c.before.before.before.before.before.before.before.before.before in
-    let r = right-at _ _ _ _ z.requires.0 z.requires.1 in
-    omega (arith, r.whole, r.gone-fits, c.before.word.ensures)
+    let r = right_at _ _ _ _ z.requires.0 z.requires.1 in
+    omega (arith, r.whole, r.gone_fits, c.before.word.ensures)
 
 part-call-start : tie.Need-slice-bounds-call-start
 part-call-start c =
     let z = c.before.before.before.before.before.before.before.before.before in
-    let r = right-at _ _ _ _ z.requires.0 z.requires.1 in
-    omega (arith, r.whole, r.gone-fits, c.before.word.ensures)
+    let r = right_at _ _ _ _ z.requires.0 z.requires.1 in
+    omega (arith, r.whole, r.gone_fits, c.before.word.ensures)
 
 part-call-end : tie.Need-slice-bounds-call-end
 part-call-end c =
     let z = c.before.before.before.before.before.before.before.before.before in
-    let r = right-at _ _ _ _ z.requires.0 z.requires.1 in
-    omega (arith, r.whole, r.gone-fits, c.before.word.ensures)
+    let r = right_at _ _ _ _ z.requires.0 z.requires.1 in
+    omega (arith, r.whole, r.gone_fits, c.before.word.ensures)
 
 sub-call-2 : tie.Need-overflow-sub-call-2
 sub-call-2 c =
     let z = c.before.before.before.before.before.before.before.before.before.before in
-    let r = right-at _ _ _ _ z.requires.0 z.requires.1 in
-    omega (arith, r.whole, r.new-fits, c.before.word2.ensures)
+    let r = right_at _ _ _ _ z.requires.0 z.requires.1 in
+    omega (arith, r.whole, r.new_fits, c.before.word2.ensures)
 
 part-call-start-2 : tie.Need-slice-bounds-call-start-2
 part-call-start-2 c =
     let z = c.before.before.before.before.before.before.before.before.before.before in
-    let r = right-at _ _ _ _ z.requires.0 z.requires.1 in
-    omega (arith, r.whole, r.new-fits, c.before.word2.ensures)
+    let r = right_at _ _ _ _ z.requires.0 z.requires.1 in
+    omega (arith, r.whole, r.new_fits, c.before.word2.ensures)
 
 part-call-end-2 : tie.Need-slice-bounds-call-end-2
 part-call-end-2 c =
     let z = c.before.before.before.before.before.before.before.before.before.before in
-    let r = right-at _ _ _ _ z.requires.0 z.requires.1 in
-    omega (arith, r.whole, r.new-fits, c.before.word2.ensures)
+    let r = right_at _ _ _ _ z.requires.0 z.requires.1 in
+    omega (arith, r.whole, r.new_fits, c.before.word2.ensures)
 
 sub-call-3 : tie.Need-overflow-sub-call-3
 sub-call-3 c = search rules
@@ -169,8 +169,8 @@ returns c =
     answers_at a.b.now calls k (1024 * k + 1024 - 1024 * k) (6 * k + 6 - 6 * k) (part_of (525 * k + 5) (525 * k + 5 + first.result - (525 * k + 5)) calls)
     (part_of (525 * k + 265) (525 * k + 265 + second.result - (525 * k + 265)) calls) (space a.store.now a.work.now a.lists.now a.answers.now)
     gave.new.1.1.1.1.0 gave.new.1.1.1.1.1.0 gave.new.1.1.1.1.1.1.0 gave.new.1.1.1.1.1.1.1.0
-    (part-is (525 * k + 5) (525 * k + 5 + first.result - (525 * k + 5)) (word calls (525 * k + 1)) calls (omega (arith, first.ensures)))
-    (part-is (525 * k + 265) (525 * k + 265 + second.result - (525 * k + 265)) (word calls (525 * k + 3)) calls (omega (arith, second.ensures))) (omega arith) (omega arith) gave.ensures
+    (part_is (525 * k + 5) (525 * k + 5 + first.result - (525 * k + 5)) (word calls (525 * k + 1)) calls (omega (arith, first.ensures)))
+    (part_is (525 * k + 265) (525 * k + 265 + second.result - (525 * k + 265)) (word calls (525 * k + 3)) calls (omega (arith, second.ensures))) (omega arith) (omega arith) gave.ensures
 
 pub call_at_spec : {M : Type 1} → statement M
 call_at_spec =

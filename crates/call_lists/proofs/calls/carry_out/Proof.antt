@@ -5,7 +5,7 @@ use mathlib.Core.Path.{◌≡◌, refl, sym, ◌∙◌}
 use Rattle.call_lists.specs.declared.Carried.TheVariants.{Done, BadCall, ShortLists, ShortAnswers}
 use Rattle.call_lists.specs.Running.{space}
 use Rattle.call_lists.proofs.Listed.{done_runnable}
-use Rattle.call_lists.proofs.Turns.{refuses-all, carries-all}
+use Rattle.call_lists.proofs.Turns.{refuses_all, carries_all}
 use borrow.Author.Rules.{rules}
 use Rattle.call_lists.proofs.calls.carry_out.Statement.{statement}
 use Rattle.call_lists.proofs.calls.carry_out.Tie as tie
@@ -52,28 +52,28 @@ returns c =
     let checked = c.before.before.before.before.before.before.before.before.before.before.before.before.before.before.before.before.check-calls in
     let gave = c.before.before.before.before.before.before.before.before.run in
     let v = space gave.new.1.1.1.0 gave.new.1.1.1.1.0 gave.new.1.1.1.1.1.0 gave.new.1.1.1.1.1.1.0 in
-    carries-all a.b.now a.calls.now u (Done found.0.0) (sym found.1 ∙ checked.ensures) found.0.0 v refl gave.ensures
+    carries_all a.b.now a.calls.now u (Done found.0.0) (sym found.1 ∙ checked.ensures) found.0.0 v refl gave.ensures
 
 returns-2 : tie.Need-returns-2
 returns-2 c =
     let a = c.before.before.before.before.before.before.before.before.before.before.args in
     let u = space a.store.now a.work.now a.lists.now a.answers.now in
     let found = c.before.k.given in
-    refuses-all a.b.now a.calls.now u (BadCall found.0.0) (sym found.1 ∙ c.before.before.before.check-calls.ensures) (λ n e. let y : ◌≡◌ {A = ℕ} 0 1 = cc in omega arith)
+    refuses_all a.b.now a.calls.now u (BadCall found.0.0) (sym found.1 ∙ c.before.before.before.check-calls.ensures) (λ n e. let y : ◌≡◌ {A = ℕ} 0 1 = cc in omega arith)
 
 returns-3 : tie.Need-returns-3
 returns-3 c =
     let a = c.before.before.before.before.before.before.before.before.before.args in
     let u = space a.store.now a.work.now a.lists.now a.answers.now in
     let told = c.enum_told.given in
-    refuses-all a.b.now a.calls.now u ShortLists (sym told.1 ∙ c.before.before.check-calls.ensures) (λ n e. let y : ◌≡◌ {A = ℕ} 0 1 = cc in omega arith)
+    refuses_all a.b.now a.calls.now u ShortLists (sym told.1 ∙ c.before.before.check-calls.ensures) (λ n e. let y : ◌≡◌ {A = ℕ} 0 1 = cc in omega arith)
 
 returns-4 : tie.Need-returns-4
 returns-4 c =
     let a = c.before.before.before.before.before.before.before.before.before.args in
     let u = space a.store.now a.work.now a.lists.now a.answers.now in
     let told = c.enum-told2.given in
-    refuses-all a.b.now a.calls.now u ShortAnswers (sym told.1 ∙ c.before.before.check-calls.ensures) (λ n e. let y : ◌≡◌ {A = ℕ} 0 1 = cc in omega arith)
+    refuses_all a.b.now a.calls.now u ShortAnswers (sym told.1 ∙ c.before.before.check-calls.ensures) (λ n e. let y : ◌≡◌ {A = ℕ} 0 1 = cc in omega arith)
 
 pub carry_out_spec : {M : Type 1} → statement M
 carry_out_spec =

@@ -5,7 +5,7 @@ use mathlib.Core.Path.{◌≡◌, refl, subst, ◌∙◌}
 use lib.ListN.{length}
 use borrow.Author.Rules.{rules}
 use Rattle.call_lists.specs.Running.{space, Runs}
-use Rattle.call_lists.proofs.Turns.{Kept, runs_none, runs-more}
+use Rattle.call_lists.proofs.Turns.{Kept, runs_none, runs_more}
 use Rattle.call_lists.proofs.calls.run.Statement.{statement}
 use Rattle.call_lists.proofs.calls.run.Tie as tie
 
@@ -22,7 +22,7 @@ loop-holds : tie.Need-loop-init invariant-loop decreases-loop
 loop-holds c =
     let a = c.before.before.before.before.before.before.args in
     let u = space a.store.now a.work.now a.lists.now a.answers.now in
-    (search rules, runs_none a.b.now a.calls.now u, record { store_long = refl; work-long = refl; lists-long = refl; answers-long = refl })
+    (search rules, runs_none a.b.now a.calls.now u, record { store_long = refl; work_long = refl; lists_long = refl; answers_long = refl })
 
 call-at-requires : tie.Need-call-at-requires invariant-loop decreases-loop
 call-at-requires c κs =
@@ -30,8 +30,8 @@ call-at-requires c κs =
     let kept = c.before.before.before.before.before.loop.invariant.2 in (
       record {
         right = all.right;
-        lists-long = omega (arith, kept.lists-long, all.lists-long);
-        answers-long = omega (arith, kept.answers-long, all.answers-long);
+        lists_long = omega (arith, kept.lists_long, all.lists_long);
+        answers_long = omega (arith, kept.answers_long, all.answers_long);
       },
       c.before.before.before.before.loop-test.true,
     )
@@ -53,15 +53,15 @@ loop-again c =
     let u = space a.store.now a.work.now a.lists.now a.answers.now in
     let v = space at.store at.work at.lists at.answers in
     let w = space gave.new.1.1.1.1.0 gave.new.1.1.1.1.1.0 gave.new.1.1.1.1.1.1.0 gave.new.1.1.1.1.1.1.1.0 in
-    let lists-room : 1024 * at.k + 1024 ≤ length a.lists.now = omega (arith, below, z.requires.lists-long) in
-    let answers-room : 6 * at.k + 6 ≤ length a.answers.now = omega (arith, below, z.requires.answers-long) in (
+    let lists_room : 1024 * at.k + 1024 ≤ length a.lists.now = omega (arith, below, z.requires.lists_long) in
+    let answers_room : 6 * at.k + 6 ≤ length a.answers.now = omega (arith, below, z.requires.answers_long) in (
       search rules,
-      runs-more a.b.now a.calls.now at.k u v w kept gave.ensures lists-room answers-room at.invariant.1,
+      runs_more a.b.now a.calls.now at.k u v w kept gave.ensures lists_room answers_room at.invariant.1,
       record {
         store_long = gave.auto.1.1.1.1.0 ∙ kept.store_long;
-        work-long = gave.auto.1.1.1.1.1.0 ∙ kept.work-long;
-        lists-long = gave.auto.1.1.1.1.1.1.0 ∙ kept.lists-long;
-        answers-long = gave.auto.1.1.1.1.1.1.1.0 ∙ kept.answers-long;
+        work_long = gave.auto.1.1.1.1.1.0 ∙ kept.work_long;
+        lists_long = gave.auto.1.1.1.1.1.1.0 ∙ kept.lists_long;
+        answers_long = gave.auto.1.1.1.1.1.1.1.0 ∙ kept.answers_long;
       },
     )
 
@@ -69,13 +69,13 @@ same_length : tie.Need-same-length invariant-loop decreases-loop
 same_length c = c.before.loop.invariant.2.store_long
 
 same-length-2 : tie.Need-same-length-2 invariant-loop decreases-loop
-same-length-2 c = c.before.loop.invariant.2.work-long
+same-length-2 c = c.before.loop.invariant.2.work_long
 
 same-length-3 : tie.Need-same-length-3 invariant-loop decreases-loop
-same-length-3 c = c.before.loop.invariant.2.lists-long
+same-length-3 c = c.before.loop.invariant.2.lists_long
 
 same-length-4 : tie.Need-same-length-4 invariant-loop decreases-loop
-same-length-4 c = c.before.loop.invariant.2.answers-long
+same-length-4 c = c.before.loop.invariant.2.answers_long
 
 returns : tie.Need-returns invariant-loop decreases-loop
 returns c =

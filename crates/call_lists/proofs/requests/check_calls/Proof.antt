@@ -3,7 +3,7 @@ use Prim.Native.Nat.{◌+◌, ◌/◌}
 use mathlib.Core.Path.{refl}
 use lib.ListN.{length}
 use Rattle.call_lists.specs.Requests.{call_count}
-use Rattle.call_lists.proofs.Listed.{answers_bad, answers-lists, answers-answers, answers_done}
+use Rattle.call_lists.proofs.Listed.{answers_bad, answers_lists, answers_answers, answers_done}
 use borrow.Author.Rules.{rules}
 use Rattle.call_lists.proofs.requests.check_calls.Statement.{statement}
 use Rattle.call_lists.proofs.requests.check_calls.Tie as tie
@@ -30,14 +30,14 @@ unfolding call_count
 returns-2 c =
     let a = c.before.before.before.before.args in
     let bad = c.before.before.first-bad in
-    answers-lists a.calls.now a.lists a.answers ((length a.calls.now + 524) / 525) bad.result refl bad.ensures c.before.if1.false c.if2.true
+    answers_lists a.calls.now a.lists a.answers ((length a.calls.now + 524) / 525) bad.result refl bad.ensures c.before.if1.false c.if2.true
 
 returns-3 : tie.Need-returns-3
 unfolding call_count
 returns-3 c =
     let a = c.before.before.before.before.before.args in
     let bad = c.before.before.before.first-bad in
-    answers-answers a.calls.now a.lists a.answers ((length a.calls.now + 524) / 525) bad.result refl bad.ensures
+    answers_answers a.calls.now a.lists a.answers ((length a.calls.now + 524) / 525) bad.result refl bad.ensures
     c.before.before.if1.false c.before.if2.false c.if3.true
 
 returns-4 : tie.Need-returns-4

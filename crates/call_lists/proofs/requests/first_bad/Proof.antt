@@ -6,7 +6,7 @@ use mathlib.Core.Bool.{true}
 use borrow.Author.Count.{below_more}
 use borrow.Author.Rules.{rules}
 use borrow.Author.Tests.{not-true, not-false}
-use Rattle.catalogue.proofs.FirstFault.{first-is}
+use Rattle.catalogue.proofs.FirstFault.{first_is}
 use Rattle.call_lists.specs.Requests.{call_count, call_right}
 use Rattle.call_lists.proofs.requests.first_bad.Statement.{statement}
 use Rattle.call_lists.proofs.requests.first_bad.Tie as tie
@@ -31,18 +31,18 @@ loop-less : tie.Need-loop-smaller invariant-loop decreases-loop
 loop-less c = search rules
 
 loop-again : tie.Need-loop-preserved invariant-loop decreases-loop
-loop-again c = (search rules, below_more _ _ c.before.before.before.loop.invariant.1 (sym c.before.call-right.ensures ∙ not-false _ c.if1.false))
+loop-again c = (search rules, below_more _ _ c.before.before.before.loop.invariant.1 (sym c.before.call_right_lem.ensures ∙ not-false _ c.if1.false))
 
 returns : tie.Need-returns invariant-loop decreases-loop
-returns c = first-is (record { within = search rules; passed = c.before.loop.invariant.1; fails = λ l. absurd (omega arith) })
+returns c = first_is (record { within = search rules; passed = c.before.loop.invariant.1; fails = λ l. absurd (omega arith) })
 
 returns-2 : tie.Need-returns-2 invariant-loop decreases-loop
 returns-2 c =
-    first-is
+    first_is
     (record {
       within = search rules;
       passed = c.before.before.before.loop.invariant.1;
-      fails = λ l. sym c.before.call-right.ensures ∙ not-true _ c.if1.true;
+      fails = λ l. sym c.before.call_right_lem.ensures ∙ not-true _ c.if1.true;
     })
 
 pub first_bad_spec : {M : Type 1} → statement M

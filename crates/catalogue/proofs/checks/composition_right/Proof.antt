@@ -14,7 +14,7 @@ returns : tie.Need-returns
 unfolding composition_right
 returns c =
     let r = c.before.before.before.before.at.ensures in
-    simp (r.first-is, r.second_is, r.result-is, c.before.before.before.roles.ensures)
+    simp (r.first_is, r.second_is, r.result_is, c.before.before.before.roles.ensures)
 
 pub composition_right_spec : {M : Type 1} → statement M
 composition_right_spec = tie.close (tie.spec at-requires roles-requires returns)

@@ -2,7 +2,7 @@
 use borrow.Author.Rules.{rules}
 use native.Mathlib.Omega.{arith}
 use mathlib.Core.Path.{sym, ◌∙◌}
-use Rattle.catalogue.proofs.Tests.{fields_simple, fields-conjunction, fields-existential, fields_other}
+use Rattle.catalogue.proofs.Tests.{fields_simple, fields_conjunction, fields_existential, fields_other}
 use Rattle.catalogue.specs.Checks.{fields_right}
 use Rattle.catalogue.proofs.checks.fields_right.Statement.{statement}
 use Rattle.catalogue.proofs.checks.fields_right.Tie as tie
@@ -17,19 +17,19 @@ returns : tie.Need-returns
 unfolding fields_right
 returns c =
     let r = c.before.before.before.before.at.ensures in
-    simp (r.first-is, r.second_is) (sym (fields-conjunction _ _ _ (sym r.kind-is ∙ c.before.before.match.keys1)))
+    simp (r.first_is, r.second_is) (sym (fields_conjunction _ _ _ (sym r.kind_is ∙ c.before.before.match.keys1)))
 
 returns-2 : tie.Need-returns-2
 unfolding fields_right
 returns-2 c =
     let r = c.before.before.before.before.at.ensures in
-    simp (r.first-is, r.second_is, c.before.before.before.roles.ensures) (sym (fields-existential _ _ _ (sym r.kind-is ∙ c.before.before.match.keys2)))
+    simp (r.first_is, r.second_is, c.before.before.before.roles.ensures) (sym (fields_existential _ _ _ (sym r.kind_is ∙ c.before.before.match.keys2)))
 
 returns-3 : tie.Need-returns-3
 unfolding fields_right
 returns-3 c =
     let r = c.before.before.before.before.before.at.ensures in
-    simp (r.first-is, r.second_is) (sym (fields_simple _ _ _ (omega arith)))
+    simp (r.first_is, r.second_is) (sym (fields_simple _ _ _ (omega arith)))
 
 returns-4 : tie.Need-returns-4
 unfolding fields_right

@@ -7,7 +7,7 @@ use borrow.Author.Count.{below_more}
 use borrow.Author.Rules.{rules}
 use borrow.Author.Tests.{not-true, not-false}
 use Rattle.catalogue.specs.Verdicts.{record_right}
-use Rattle.catalogue.proofs.FirstFault.{first-is}
+use Rattle.catalogue.proofs.FirstFault.{first_is}
 use Rattle.catalogue.proofs.checks.first_fault.Statement.{statement}
 use Rattle.catalogue.proofs.checks.first_fault.Tie as tie
 
@@ -35,7 +35,7 @@ loop-again c =
 
 returns : tie.Need-returns invariant-loop decreases-loop
 returns c =
-    first-is
+    first_is
     (record {
       within = search rules;
       passed = c.before.loop.invariant.1;
@@ -44,7 +44,7 @@ returns c =
 
 returns-2 : tie.Need-returns-2 invariant-loop decreases-loop
 returns-2 c =
-    first-is
+    first_is
     (record {
       within = search rules;
       passed = c.before.before.before.loop.invariant.1;

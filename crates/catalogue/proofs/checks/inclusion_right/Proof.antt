@@ -12,7 +12,7 @@ roles-requires c κs = search rules
 
 returns : tie.Need-returns
 unfolding inclusion_right
-returns c = simp (c.before.before.before.at.ensures.within-is, c.before.before.before.at.ensures.around-is, c.before.before.roles.ensures)
+returns c = simp (c.before.before.before.at.ensures.within_is, c.before.before.before.at.ensures.around_is, c.before.before.roles.ensures)
 
 pub inclusion_right_spec : {M : Type 1} → statement M
 inclusion_right_spec = tie.close (tie.spec at-requires roles-requires returns)

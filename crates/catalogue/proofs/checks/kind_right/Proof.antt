@@ -9,7 +9,7 @@ at-requires c κs = search rules
 
 returns : tie.Need-returns
 unfolding kind_right
-returns c = simp c.before.at.ensures.kind-is
+returns c = simp c.before.at.ensures.kind_is
 
 pub kind_right_spec : {M : Type 1} → statement M
 kind_right_spec = tie.close (tie.spec at-requires returns)

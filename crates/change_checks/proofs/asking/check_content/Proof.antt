@@ -9,7 +9,7 @@ use Rattle.catalogue.proofs.Outcomes.{ask_yes, ask_no}
 use Rattle.layout.specs.Parts.{in_force}
 use Rattle.store.specs.Checks.{axioms_in_limit, ask_spare, ask_limit, ask_numbers}
 use Rattle.change_contract.specs.Questions.{ask_twice, content_checks}
-use Rattle.change_checks.proofs.Asked.{twice-asked, beyond-asked}
+use Rattle.change_checks.proofs.Asked.{twice_asked, beyond_asked}
 use Rattle.change_checks.proofs.asking.check_content.Statement.{statement}
 use Rattle.change_checks.proofs.asking.check_content.Tie as tie
 
@@ -29,7 +29,7 @@ returns c =
     let b = z.args.b.now in
     let F = in_force b z.args.store.now in
     let list = z.args.withdrawn.now ++ z.args.added.now in
-    sym (ask_no 23 0 _ (twice-asked b F list ∙ ap not (sym c.before.before.any-fault.ensures ∙ c.if1.true)))
+    sym (ask_no 23 0 _ (twice_asked b F list ∙ ap not (sym c.before.before.any-fault.ensures ∙ c.if1.true)))
 
 spare-clear-requires : tie.Need-spare-clear-requires
 spare-clear-requires c κs = c.before.before.before.before.before.before.before.before.requires.0
@@ -42,11 +42,11 @@ returns-2 c =
     let F = in_force b z.args.store.now in
     let list = z.args.withdrawn.now ++ z.args.added.now in
     sym
-    (ask_yes 23 0 _ (twice-asked b F list ∙ ap not (sym c.before.before.before.before.any-fault.ensures ∙ c.before.before.if1.false))
-    ∙ ask_no 13 0 _ (sym c.before.spare-clear.ensures ∙ not-true _ c.if2.true))
+    (ask_yes 23 0 _ (twice_asked b F list ∙ ap not (sym c.before.before.before.before.any-fault.ensures ∙ c.before.before.if1.false))
+    ∙ ask_no 13 0 _ (sym c.before.spare_clear.ensures ∙ not-true _ c.if2.true))
 
 axiom-count-requires : tie.Need-axiom-count-requires
-axiom-count-requires c κs = record { sized = c.before.before.before.before.before.before.before.before.before.before.requires.0; spare = sym c.before.spare-clear.ensures ∙ not-false _ c.if2.false }
+axiom-count-requires c κs = record { sized = c.before.before.before.before.before.before.before.before.before.before.requires.0; spare = sym c.before.spare_clear.ensures ∙ not-false _ c.if2.false }
 
 returns-3 : tie.Need-returns-3
 unfolding content_checks ask_twice ask_spare ask_limit axioms_in_limit
@@ -56,8 +56,8 @@ returns-3 c =
     let F = in_force b z.args.store.now in
     let list = z.args.withdrawn.now ++ z.args.added.now in
     sym
-    (ask_yes 23 0 _ (twice-asked b F list ∙ ap not (sym c.before.before.before.before.before.before.any-fault.ensures ∙ c.before.before.before.before.if1.false))
-    ∙ ask_yes 13 0 _ (sym c.before.before.before.spare-clear.ensures ∙ not-false _ c.before.before.if2.false)
+    (ask_yes 23 0 _ (twice_asked b F list ∙ ap not (sym c.before.before.before.before.before.before.any-fault.ensures ∙ c.before.before.before.before.if1.false))
+    ∙ ask_yes 13 0 _ (sym c.before.before.before.spare_clear.ensures ∙ not-false _ c.before.before.if2.false)
     ∙ ask_no 14 0 _ (ap (λ (n : ℕ). leb n 4096) (sym c.before.axiom_count_lem.ensures) ∙ not-true _ c.if3.true))
 
 returns-4 : tie.Need-returns-4
@@ -68,10 +68,10 @@ returns-4 c =
     let F = in_force b z.args.store.now in
     let list = z.args.withdrawn.now ++ z.args.added.now in
     sym
-    (ask_yes 23 0 _ (twice-asked b F list ∙ ap not (sym c.before.before.before.before.before.before.before.any-fault.ensures ∙ c.before.before.before.before.before.if1.false))
-    ∙ ask_yes 13 0 _ (sym c.before.before.before.before.spare-clear.ensures ∙ not-false _ c.before.before.before.if2.false)
+    (ask_yes 23 0 _ (twice_asked b F list ∙ ap not (sym c.before.before.before.before.before.before.before.any-fault.ensures ∙ c.before.before.before.before.before.if1.false))
+    ∙ ask_yes 13 0 _ (sym c.before.before.before.before.spare_clear.ensures ∙ not-false _ c.before.before.before.if2.false)
     ∙ ask_yes 14 0 _ (ap (λ (n : ℕ). leb n 4096) (sym c.before.before.axiom_count_lem.ensures) ∙ not-false _ c.before.if3.false)
-    ∙ ask_no 15 0 _ (beyond-asked b F list ∙ ap not (sym c.before.before.before.before.before.before.any-fault2.ensures ∙ c.if4.true)))
+    ∙ ask_no 15 0 _ (beyond_asked b F list ∙ ap not (sym c.before.before.before.before.before.before.any-fault2.ensures ∙ c.if4.true)))
 
 check-axioms-requires : tie.Need-check-axioms-requires
 check-axioms-requires c κs =
@@ -86,8 +86,8 @@ check-axioms-requires c κs =
       p.2,
       few,
       c.before.before.axiom_count_lem.ensures,
-      twice-asked b F list ∙ ap not (sym c.before.before.before.before.before.before.before.any-fault.ensures ∙ c.before.before.before.before.before.if1.false),
-      beyond-asked b F list ∙ ap not (sym c.before.before.before.before.before.before.any-fault2.ensures ∙ c.if4.false),
+      twice_asked b F list ∙ ap not (sym c.before.before.before.before.before.before.before.any-fault.ensures ∙ c.before.before.before.before.before.if1.false),
+      beyond_asked b F list ∙ ap not (sym c.before.before.before.before.before.before.any-fault2.ensures ∙ c.if4.false),
     )
 
 returns-5 : tie.Need-returns-5
@@ -99,10 +99,10 @@ returns-5 c =
     let list = z.args.withdrawn.now ++ z.args.added.now in
     c.check-axioms.ensures
     ∙ sym
-    (ask_yes 23 0 _ (twice-asked b F list ∙ ap not (sym c.before.before.before.before.before.before.before.before.any-fault.ensures ∙ c.before.before.before.before.before.before.if1.false))
-    ∙ ask_yes 13 0 _ (sym c.before.before.before.before.before.spare-clear.ensures ∙ not-false _ c.before.before.before.before.if2.false)
+    (ask_yes 23 0 _ (twice_asked b F list ∙ ap not (sym c.before.before.before.before.before.before.before.before.any-fault.ensures ∙ c.before.before.before.before.before.before.if1.false))
+    ∙ ask_yes 13 0 _ (sym c.before.before.before.before.before.spare_clear.ensures ∙ not-false _ c.before.before.before.before.if2.false)
     ∙ ask_yes 14 0 _ (ap (λ (n : ℕ). leb n 4096) (sym c.before.before.before.axiom_count_lem.ensures) ∙ not-false _ c.before.before.if3.false)
-    ∙ ask_yes 15 0 _ (beyond-asked b F list ∙ ap not (sym c.before.before.before.before.before.before.before.any-fault2.ensures ∙ c.before.if4.false)))
+    ∙ ask_yes 15 0 _ (beyond_asked b F list ∙ ap not (sym c.before.before.before.before.before.before.before.any-fault2.ensures ∙ c.before.if4.false)))
 
 pub check_content_spec : {M : Type 1} → statement M
 check_content_spec =

@@ -6,7 +6,7 @@ use mathlib.Core.Bool.{false}
 use mathlib.Core.List.{◌++◌}
 use borrow.Author.Count.{below_more}
 use borrow.Author.Rules.{rules}
-use Rattle.rows.proofs.Counting.{some_at, some-none}
+use Rattle.rows.proofs.Counting.{some_at, some_none}
 use Rattle.layout.specs.Parts.{in_force}
 use Rattle.change_contract.specs.Lists.{axioms_in}
 use Rattle.change_checks.specs.Reading.{fault_at}
@@ -52,7 +52,7 @@ returns-2 c =
     let b = z.args.b.now in
     let list = z.args.first.now ++ z.args.second.now in
     sym
-    (some-none (fault_at z.args.fault b (in_force b z.args.store.now) list) (axioms_in list)
+    (some_none (fault_at z.args.fault b (in_force b z.args.store.now) list) (axioms_in list)
     (λ i l. c.before.loop.invariant.1 i (omega (arith, c.before.before.count.ensures, c.loop-test.false, c.before.loop.invariant.0))))
 
 pub any_fault_spec : {M : Type 1} → statement M

@@ -60,7 +60,7 @@ returns-2 c =
     let F = in_force b z.args.store.now in
     let list = z.args.first.now ++ z.args.second.now in
     ap₂ (λ (x y : ℕ). not (ltb x z.args.s.concepts && ltb y z.args.s.concepts)) a.left_is a.right_is
-    ∙ ap (λ (n : ℕ). not (ltb (left_in list z.args.k) n && ltb (right_in list z.args.k) n)) (sizes z.requires.0).concepts-is
+    ∙ ap (λ (n : ℕ). not (ltb (left_in list z.args.k) n && ltb (right_in list z.args.k) n)) (sizes z.requires.0).concepts_is
     ∙ ap (λ (f : Fault). fault_at f b F list z.args.k) (sym c.before.before.enum-told2.given.1)
 
 returns-3 : tie.Need-returns-3

@@ -30,7 +30,7 @@ inside l n r m e =
     (ltb-true l n (and_left (ltb l n) (ltb r m) both), ltb-true r m (and_right (ltb l n) (ltb r m) both))
 
 mul-if1 : tie.Need-overflow-mul-if1
-mul-if1 c = omega (arith, (sizes c.before.before.before.requires).width-limit)
+mul-if1 c = omega (arith, (sizes c.before.before.before.requires).width_limit)
 
 returns : tie.Need-returns
 unfolding in_force table
@@ -48,21 +48,21 @@ mul-has c =
     let z = c.before.before.before.before in
     let k = sizes z.requires in
     let (ll, lr) = inside z.args.l z.args.s.concepts z.args.r (8 * z.args.s.width) c.if1.false in
-    omega (arith, k.table-limit, row_within z.args.s.width z.args.l z.args.s.concepts ll)
+    omega (arith, k.table_limit, row_within z.args.s.width z.args.l z.args.s.concepts ll)
 
 mul-has-2 : tie.Need-overflow-mul-has-2
 mul-has-2 c =
     let z = c.before.before.before.before in
     let k = sizes z.requires in
     let (ll, lr) = inside z.args.l z.args.s.concepts z.args.r (8 * z.args.s.width) c.if1.false in
-    omega (arith, k.table-limit, row_within z.args.s.width z.args.l z.args.s.concepts ll)
+    omega (arith, k.table_limit, row_within z.args.s.width z.args.l z.args.s.concepts ll)
 
-add-has : tie.Need-overflow-add-has
-add-has c =
+add_has : tie.Need-overflow-add-has
+add_has c =
     let z = c.before.before.before.before in
     let k = sizes z.requires in
     let (ll, lr) = inside z.args.l z.args.s.concepts z.args.r (8 * z.args.s.width) c.if1.false in
-    omega (arith, k.table-limit, k.width-limit, lr, row_within z.args.s.width z.args.l z.args.s.concepts ll)
+    omega (arith, k.table_limit, k.width_limit, lr, row_within z.args.s.width z.args.l z.args.s.concepts ll)
 
 has-requires : tie.Need-has-requires
 has-requires c κs = search rules
@@ -79,7 +79,7 @@ returns-2 c =
     let (ll, lr) = inside l z.args.s.concepts r (8 * z.args.s.width) c.before.if1.false in
     c.has.ensures
     ∙ ap (λ (w : ℕ). bit store (8 * (l * w) + r)) k.width_is
-    ∙ sym (in_force_bit b store l r (omega (arith, ll, k.concepts-is)) (omega (arith, lr, k.width_is)))
+    ∙ sym (in_force_bit b store l r (omega (arith, ll, k.concepts_is)) (omega (arith, lr, k.width_is)))
 
 pub in_force_spec : {M : Type 1} → statement M
-in_force_spec = tie.close (tie.spec mul-if1 returns mul-has mul-has-2 add-has has-requires returns-2)
+in_force_spec = tie.close (tie.spec mul-if1 returns mul-has mul-has-2 add_has has-requires returns-2)

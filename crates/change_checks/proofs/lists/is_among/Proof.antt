@@ -7,7 +7,7 @@ use mathlib.Core.List.{List, ◌++◌}
 use lib.Dec.{eqb}
 use borrow.Author.Count.{below_more}
 use borrow.Author.Rules.{rules}
-use Rattle.rows.proofs.Counting.{some_at, some-none}
+use Rattle.rows.proofs.Counting.{some_at, some_none}
 use Rattle.change_contract.specs.Lists.{left_in, right_in, among}
 use Rattle.change_checks.proofs.lists.is_among.Statement.{statement}
 use Rattle.change_checks.proofs.lists.is_among.Tie as tie
@@ -57,7 +57,7 @@ unfolding among
 returns-2 c =
     let z = c.before.before.before.before in
     sym
-    (some-none (is_at (z.args.first.now ++ z.args.second.now) z.args.l z.args.r) z.args.k
+    (some_none (is_at (z.args.first.now ++ z.args.second.now) z.args.l z.args.r) z.args.k
     (λ i l. c.before.loop.invariant.1 i (omega (arith, c.loop-test.false, c.before.loop.invariant.0))))
 
 pub is_among_spec : {M : Type 1} → statement M

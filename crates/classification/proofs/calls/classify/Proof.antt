@@ -2,8 +2,8 @@
 use mathlib.Core.Path.{sym, ap, ◌∙◌}
 use lib.ListN.{length}
 use Rattle.catalogue.specs.Verdicts.{outcome_of}
-use Rattle.classification.proofs.Checks.{refused-catalogue}
-use Rattle.classification.proofs.Answers.{ends-refused}
+use Rattle.classification.proofs.Checks.{refused_catalogue}
+use Rattle.classification.proofs.Answers.{ends_refused}
 use borrow.Author.Rules.{rules}
 use Rattle.classification.proofs.calls.classify.Statement.{statement}
 use Rattle.classification.proofs.calls.classify.Tie as tie
@@ -27,8 +27,8 @@ returns c =
     let check_gave = c.before.before.before.check in
     let q = c.before.before.before.before.before.before.before.args in
     let v = c.before.number.given in
-    ends-refused q.b.now q.store.now q.work.now v.0.0 v.0.1.0
-    (refused-catalogue q.b.now (length q.store.now) (length q.work.now) (sym check_gave.ensures ∙ ap outcome_of v.1))
+    ends_refused q.b.now q.store.now q.work.now v.0.0 v.0.1.0
+    (refused_catalogue q.b.now (length q.store.now) (length q.work.now) (sym check_gave.ensures ∙ ap outcome_of v.1))
 
 same_length : tie.Need-same-length
 same_length c = search rules

@@ -14,7 +14,7 @@ use Rattle.layout.specs.Layout.{table, block_length, table_length}
 use Rattle.layout.proofs.Sizes.{sizes as shape-limits}
 use Rattle.layout.proofs.StoreSizes.{work_is_block}
 use Rattle.classification.specs.Closing.{Closes}
-use Rattle.classification.proofs.Filled.{shaped, part_sizes, store-filled}
+use Rattle.classification.proofs.Filled.{shaped, part_sizes, store_filled}
 use borrow.Author.Rules.{rules}
 use Rattle.classification.proofs.calls.fill.Statement.{statement}
 use Rattle.classification.proofs.calls.fill.Tie as tie
@@ -32,7 +32,7 @@ mul-pairs c =
     let t = table_length shape.result in
     let limits = shape-limits (shaped entry.requires shape.ensures) in
     let parts = part_sizes b store shape.result shape.ensures entry.requires.well_formed entry.requires.store_long in
-    omega (arith, limits.table-limit)
+    omega (arith, limits.table_limit)
 
 add-links : tie.Need-overflow-add-links
 unfolding table_length
@@ -44,7 +44,7 @@ add-links c =
     let t = table_length shape.result in
     let limits = shape-limits (shaped entry.requires shape.ensures) in
     let parts = part_sizes b store shape.result shape.ensures entry.requires.well_formed entry.requires.store_long in
-    omega (arith, limits.table-limit)
+    omega (arith, limits.table_limit)
 
 table-requires : tie.Need-table-requires
 table-requires c κs = search rules
@@ -60,7 +60,7 @@ array-borrow-prefix-axioms c =
     let limits = shape-limits (shaped entry.requires shape.ensures) in
     let parts = part_sizes b store shape.result shape.ensures entry.requires.well_formed entry.requires.store_long in
     let zeros = c.before.table in
-    omega (arith, zeros.ensures.long, limits.table-limit)
+    omega (arith, zeros.ensures.long, limits.table_limit)
 
 slice-aggregate-put-axioms : tie.Need-slice-aggregate-put-axioms
 unfolding table_length
@@ -73,7 +73,7 @@ slice-aggregate-put-axioms c =
     let limits = shape-limits (shaped entry.requires shape.ensures) in
     let parts = part_sizes b store shape.result shape.ensures entry.requires.well_formed entry.requires.store_long in
     let zeros = c.before.before.table in
-    prefix_long t 32768 zeros.result zeros.ensures.long limits.table-limit
+    prefix_long t 32768 zeros.result zeros.ensures.long limits.table_limit
 
 put-axioms-requires : tie.Need-put-axioms-requires
 unfolding table_length
@@ -86,7 +86,7 @@ put-axioms-requires c κs =
     let limits = shape-limits (shaped entry.requires shape.ensures) in
     let parts = part_sizes b store shape.result shape.ensures entry.requires.well_formed entry.requires.store_long in
     let zeros = c.before.before.table in
-    (shaped entry.requires shape.ensures, omega (arith, parts.whole), sym (prefix_long t 32768 zeros.result zeros.ensures.long limits.table-limit))
+    (shaped entry.requires shape.ensures, omega (arith, parts.whole), sym (prefix_long t 32768 zeros.result zeros.ensures.long limits.table_limit))
 
 array-share-prefix-axioms : tie.Need-array-share-prefix-axioms
 unfolding table_length
@@ -114,7 +114,7 @@ slice-aggregate-close c =
     let parts = part_sizes b store shape.result shape.ensures entry.requires.well_formed entry.requires.store_long in
     let zeros = c.before.before.before.before.before.before.before.table in
     let put = c.before.before.before.before.put-axioms in
-    let same : take t (put.new.1.1.1.0 ++ drop t zeros.result) ≡ put.new.1.1.1.0 = front_of t 32768 put.new.1.1.1.0 zeros.result put.auto.1.1.1.0 zeros.ensures.long limits.table-limit in
+    let same : take t (put.new.1.1.1.0 ++ drop t zeros.result) ≡ put.new.1.1.1.0 = front_of t 32768 put.new.1.1.1.0 zeros.result put.auto.1.1.1.0 zeros.ensures.long limits.table_limit in
     sym (ap length same ∙ put.ensures.rows_long)
 
 sub-close : tie.Need-overflow-sub-close
@@ -156,16 +156,16 @@ close-requires c κs =
     let parts = part_sizes b store shape.result shape.ensures entry.requires.well_formed entry.requires.store_long in
     let zeros = c.before.before.before.before.before.before.before.before.before.table in
     let put = c.before.before.before.before.before.before.put-axioms in
-    let same : take t (put.new.1.1.1.0 ++ drop t zeros.result) ≡ put.new.1.1.1.0 = front_of t 32768 put.new.1.1.1.0 zeros.result put.auto.1.1.1.0 zeros.ensures.long limits.table-limit in
+    let same : take t (put.new.1.1.1.0 ++ drop t zeros.result) ≡ put.new.1.1.1.0 = front_of t 32768 put.new.1.1.1.0 zeros.result put.auto.1.1.1.0 zeros.ensures.long limits.table_limit in
     let middle : length (mid_of t (length store - t) put.new.1.1.0) ≡ block_length shape.result =
     mid_len t (length store) put.new.1.1.0 (omega (arith, put.auto.1.1.0))
     ∙ (let rest : length store - t ≡ block_length shape.result = omega (arith, parts.whole) in rest) in
     record {
       shaped = shaped entry.requires shape.ensures;
-      axioms-long = ap length same ∙ put.ensures.rows_long;
+      axioms_long = ap length same ∙ put.ensures.rows_long;
       range = λ x y h. catalogue_in_range b entry.requires.well_formed x y (sym (put.ensures.axioms x y) ∙ ap (λ (l : List ℕ). table shape.result l x y) (sym same) ∙ h);
       set_long = middle;
-      work-long = entry.requires.work-long ∙ work_is_block b ∙ ap block_length (sym shape.ensures);
+      work_long = entry.requires.work_long ∙ work_is_block b ∙ ap block_length (sym shape.ensures);
     }
 
 sub-count : tie.Need-overflow-sub-count
@@ -203,7 +203,7 @@ count-requires c κs =
     let zeros = c.before.before.before.before.before.before.before.before.before.before.before.before.before.before.before.before.table in
     let put = c.before.before.before.before.before.before.before.before.before.before.before.before.before.put-axioms in
     let closed = c.before.before.before.before.before.before.close in
-    omega (arith, parts.table-limit, length-take ((t + t) - t) (drop t (put_mid t (length store - t) put.new.1.1.0 closed.new.1.1.1.0)))
+    omega (arith, parts.table_limit, length-take ((t + t) - t) (drop t (put_mid t (length store - t) put.new.1.1.0 closed.new.1.1.1.0)))
 
 sub-count-2 : tie.Need-overflow-sub-count-2
 unfolding table_length
@@ -279,7 +279,7 @@ returns c =
     let zeros = c.before.before.before.before.before.before.before.before.before.before.before.before.before.before.before.before.before.before.before.before.table in
     let put = c.before.before.before.before.before.before.before.before.before.before.before.before.before.before.before.before.before.put-axioms in
     let closed = c.before.before.before.before.before.before.before.before.before.before.close in
-    let same : take t (put.new.1.1.1.0 ++ drop t zeros.result) ≡ put.new.1.1.1.0 = front_of t 32768 put.new.1.1.1.0 zeros.result put.auto.1.1.1.0 zeros.ensures.long limits.table-limit in
+    let same : take t (put.new.1.1.1.0 ++ drop t zeros.result) ≡ put.new.1.1.1.0 = front_of t 32768 put.new.1.1.1.0 zeros.result put.auto.1.1.1.0 zeros.ensures.long limits.table_limit in
     let middle : length (mid_of t (length store - t) put.new.1.1.0) ≡ block_length shape.result =
     mid_len t (length store) put.new.1.1.0 (omega (arith, put.auto.1.1.0))
     ∙ (let rest : length store - t ≡ block_length shape.result = omega (arith, parts.whole) in rest) in
@@ -287,7 +287,7 @@ returns c =
     let set = closed.new.1.1.1.0 in
     let work = closed.new.1.1.1.1.0 in
     let filled =
-    store-filled b put.new.1.1.1.0 set work store put.new.1.1.0 (put_mid t (length store - t) put.new.1.1.0 closed.new.1.1.1.0) shape.result shape.ensures
+    store_filled b put.new.1.1.1.0 set work store put.new.1.1.0 (put_mid t (length store - t) put.new.1.1.0 closed.new.1.1.1.0) shape.result shape.ensures
     (record {
       well_formed = entry.requires.well_formed;
       long = entry.requires.store_long;
@@ -302,10 +302,10 @@ returns c =
     in
     record {
       answers = refl;
-      pairs-counted = subst (Size b (Pairs (Closure b (catalogue_axioms b)))) (sym c.before.before.before.count.ensures) filled.pairs;
-      links-counted = subst (Size b (Links (Closure b (catalogue_axioms b)))) (sym c.count2.ensures) filled.links;
+      pairs_counted = subst (Size b (Pairs (Closure b (catalogue_axioms b)))) (sym c.before.before.before.count.ensures) filled.pairs;
+      links_counted = subst (Size b (Links (Closure b (catalogue_axioms b)))) (sym c.count2.ensures) filled.links;
       fresh = filled.fresh;
-      work-zero = filled.work-zero;
+      work_zero = filled.work_zero;
     }
 
 pub fill_spec : {M : Type 1} → statement M

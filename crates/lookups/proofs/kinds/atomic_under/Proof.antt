@@ -3,7 +3,7 @@ use Prim.Native.Nat.{ℕ}
 use mathlib.Core.Path.{sym, ap₂, ◌∙◌}
 use mathlib.Core.Bool.{Bool, ◌&&◌}
 use lib.Dec.{eqb}
-use Rattle.store.proofs.Says.{says-pair}
+use Rattle.store.proofs.Says.{says_pair}
 use Rattle.lookups.specs.Listings.{atomic_under}
 use borrow.Author.Rules.{rules}
 use Rattle.lookups.proofs.kinds.atomic_under.Statement.{statement}
@@ -17,7 +17,7 @@ has-pair-requires c κs = search rules
 
 returns : tie.Need-returns
 unfolding atomic_under
-returns c = ap₂ (λ (k : ℕ) (t : Bool). eqb k 0 && t) c.before.before.at.ensures.kind-is (c.has-pair.ensures ∙ sym (says-pair _ _ _ _))
+returns c = ap₂ (λ (k : ℕ) (t : Bool). eqb k 0 && t) c.before.before.at.ensures.kind_is (c.has-pair.ensures ∙ sym (says_pair _ _ _ _))
 
 pub atomic_under_spec : {M : Type 1} → statement M
 atomic_under_spec = tie.close (tie.spec at-requires has-pair-requires returns)

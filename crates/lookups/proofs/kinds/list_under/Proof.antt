@@ -7,7 +7,7 @@ use lib.ListN.{length}
 use borrow.Author.Rules.{rules}
 use Rattle.store.specs.Written.{rising}
 use Rattle.number_lists.specs.Lists.{Filled}
-use Rattle.number_lists.proofs.Filling.{filled_none, filled-most, filled-step}
+use Rattle.number_lists.proofs.Filling.{filled_none, filled_most, filled_step}
 use Rattle.lookups.specs.Listings.{atomic_under, kinds_under}
 use Rattle.lookups.proofs.kinds.list_under.Statement.{statement}
 use Rattle.lookups.proofs.kinds.list_under.Tie as tie
@@ -38,10 +38,10 @@ enter-requires c κs =
     let (most, long, filled) = c.before.before.before.loop.invariant in
     let n = c.before.before.before.before.concepts.ensures in
     let test = c.before.before.loop-test.true in
-    (omega (arith, filled-most _ _ filled), omega (arith, sized.well_formed.concepts-limit))
+    (omega (arith, filled_most _ _ filled), omega (arith, sized.well_formed.concepts_limit))
 
 add-c : tie.Need-overflow-add-c invariant-loop decreases-loop
-add-c c = omega (arith, c.before.before.before.before.before.loop-test.true, c.before.before.before.before.before.before.before.concepts.ensures, c.before.before.before.before.before.before.before.before.before.before.before.requires.0.well_formed.concepts-limit)
+add-c c = omega (arith, c.before.before.before.before.before.loop-test.true, c.before.before.before.before.before.before.before.concepts.ensures, c.before.before.before.before.before.before.before.before.before.before.before.requires.0.well_formed.concepts_limit)
 
 loop-less : tie.Need-loop-smaller invariant-loop decreases-loop
 loop-less c = omega (arith, c.before.before.before.before.before.loop-test.true)
@@ -52,7 +52,7 @@ loop-again c =
     let (most, long, filled) = c.before.before.before.before.before.before.loop.invariant in
     let n = c.before.before.before.before.before.before.before.concepts.ensures in
     let test = c.before.before.before.before.before.loop-test.true in
-    (omega arith, c.before.before.enter.auto.0 ∙ long, filled-step _ _ _ _ _ _ _ (omega (arith, filled-most _ _ filled)) filled c.before.before.before.atomic-under.ensures c.before.before.enter.ensures)
+    (omega arith, c.before.before.enter.auto.0 ∙ long, filled_step _ _ _ _ _ _ _ (omega (arith, filled_most _ _ filled)) filled c.before.before.before.atomic-under.ensures c.before.before.enter.ensures)
 
 same_length : tie.Need-same-length invariant-loop decreases-loop
 same_length c = c.before.loop.invariant.1

@@ -3,7 +3,7 @@ use Prim.Native.Nat.{◌+◌, ◌*◌, ◌≤◌}
 use mathlib.Core.Path.{sym, ap, subst, ◌∙◌}
 use native.Mathlib.Omega.{arith}
 use Rattle.rows.specs.Bits.{bit}
-use Rattle.layout.proofs.Offsets.{offset_limit, held-pair}
+use Rattle.layout.proofs.Offsets.{offset_limit, held_pair}
 use borrow.Author.Rules.{rules}
 use Rattle.lookups.proofs.pairs.has_pair.Statement.{statement}
 use Rattle.lookups.proofs.pairs.has_pair.Tie as tie
@@ -17,8 +17,8 @@ pair-offset-requires c κs = search rules
 mul-has : tie.Need-overflow-mul-has
 mul-has c = omega (arith, offset_at c)
 
-add-has : tie.Need-overflow-add-has
-add-has c = omega (arith, offset_at c, c.before.before.before.requires.0.well_formed.concepts-limit)
+add_has : tie.Need-overflow-add-has
+add_has c = omega (arith, offset_at c, c.before.before.before.requires.0.well_formed.concepts_limit)
 
 has-requires : tie.Need-has-requires
 has-requires c κs = search rules
@@ -27,7 +27,7 @@ returns : tie.Need-returns
 returns c =
     let a = c.before.before.before.before.args in
     let p = c.before.before.before.before.requires in
-    c.has.ensures ∙ ap (λ o. bit a.store.now (8 * o + a.d)) c.before.pair-offset.ensures ∙ sym (held-pair a.b.now a.store.now a.c a.d p.1 p.2)
+    c.has.ensures ∙ ap (λ o. bit a.store.now (8 * o + a.d)) c.before.pair-offset.ensures ∙ sym (held_pair a.b.now a.store.now a.c a.d p.1 p.2)
 
 pub has_pair_spec : {M : Type 1} → statement M
-has_pair_spec = tie.close (tie.spec pair-offset-requires mul-has add-has has-requires returns)
+has_pair_spec = tie.close (tie.spec pair-offset-requires mul-has add_has has-requires returns)

@@ -2,10 +2,10 @@
 use mathlib.Core.Path.{sym, ap, ◌∙◌}
 use mathlib.Core.List.{[], ◌∷◌}
 use Rattle.catalogue.specs.Verdicts.{outcome_of}
-use Rattle.store.proofs.Says.{says-pair}
+use Rattle.store.proofs.Says.{says_pair}
 use Rattle.read_checks.specs.Checks.{Named}
 use Rattle.read_checks.proofs.Acceptance.{read_named, named_two}
-use Rattle.lookups.proofs.Answered.{looked-up, looked-refused}
+use Rattle.lookups.proofs.Answered.{looked_up_lem, looked_refused}
 use borrow.Author.Rules.{rules}
 use Rattle.lookups.proofs.pairs.lookup.Statement.{statement}
 use Rattle.lookups.proofs.pairs.lookup.Tie as tie
@@ -27,13 +27,13 @@ has-pair-requires c κs =
     search rules
 
 returns : tie.Need-returns
-returns c = sym (looked-up _ _ _ _ (sym c.before.before.before.before.check-reading.ensures ∙ ap outcome_of c.before.before.enum_told.given.1) (says-pair _ _ _ _ ∙ sym c.before.has-pair.ensures ∙ c.if1.true))
+returns c = sym (looked_up_lem _ _ _ _ (sym c.before.before.before.before.check-reading.ensures ∙ ap outcome_of c.before.before.enum_told.given.1) (says_pair _ _ _ _ ∙ sym c.before.has-pair.ensures ∙ c.if1.true))
 
 returns-2 : tie.Need-returns-2
-returns-2 c = sym (looked-refused _ _ _ _ (sym c.before.before.before.check-reading.ensures ∙ ap outcome_of c.before.verdict.given.1))
+returns-2 c = sym (looked_refused _ _ _ _ (sym c.before.before.before.check-reading.ensures ∙ ap outcome_of c.before.verdict.given.1))
 
 returns-3 : tie.Need-returns-3
-returns-3 c = sym (looked-up _ _ _ _ (sym c.before.before.before.before.check-reading.ensures ∙ ap outcome_of c.before.before.enum_told.given.1) (says-pair _ _ _ _ ∙ sym c.before.has-pair.ensures ∙ c.if1.false))
+returns-3 c = sym (looked_up_lem _ _ _ _ (sym c.before.before.before.before.check-reading.ensures ∙ ap outcome_of c.before.before.enum_told.given.1) (says_pair _ _ _ _ ∙ sym c.before.has-pair.ensures ∙ c.if1.false))
 
 pub lookup_spec : {M : Type 1} → statement M
 lookup_spec =

@@ -4,7 +4,7 @@ use mathlib.Core.Path.{sym, ◌∙◌}
 use mathlib.Core.Logic.{inr, ⊎_elim}
 use lib.ListN.{length}
 use borrow.Author.Rules.{rules}
-use Rattle.structure.proofs.Marking.{none-marked}
+use Rattle.structure.proofs.Marking.{none_marked}
 use Rattle.structure.proofs.parts.contains.Statement.{statement}
 use Rattle.structure.proofs.parts.contains.Tie as tie
 
@@ -19,7 +19,7 @@ mark-contained-requires c κs =
       catalogue = s.requires.0;
       within = omega (arith, s.requires);
       room = omega (arith, s.requires, clear.auto.0);
-      closed = λ i j l p h. absurd (none-marked clear.new.0 (length s.args.row.now) i clear.ensures h);
+      closed = λ i j l p h. absurd (none_marked clear.new.0 (length s.args.row.now) i clear.ensures h);
     }
 
 has-requires : tie.Need-has-requires
@@ -33,7 +33,7 @@ returns c =
     let s = c.before.before.before.before.before.before.before.before.before.before.before.before in
     let clear = c.before.before.before.before.before.before.before.before.clear in
     let a = c.before.before.before.before.mark-contained.ensures s.args.j in (
-      λ h. ⊎_elim (λ o. absurd (none-marked clear.new.0 (length s.args.row.now) s.args.j clear.ensures o)) (λ d. d) (a.0 (sym c.has.ensures ∙ h)),
+      λ h. ⊎_elim (λ o. absurd (none_marked clear.new.0 (length s.args.row.now) s.args.j clear.ensures o)) (λ d. d) (a.0 (sym c.has.ensures ∙ h)),
       λ d. c.has.ensures ∙ a.1 (inr d),
     )
 

@@ -6,7 +6,7 @@ use mathlib.Core.Path.{◌≡◌, subst}
 use Rattle.catalogue.specs.Header.{inclusions}
 use Rattle.structure.specs.Square.{Included, MarksExactly}
 use Rattle.structure.proofs.Squares.{exactly_same}
-use Rattle.structure.proofs.Reachability.{Via, via_none, through-exact, via_closed}
+use Rattle.structure.proofs.Reachability.{Via, via_none, through_exact, via_closed}
 use Rattle.structure.proofs.roles.close_roles.Statement.{statement}
 use Rattle.structure.proofs.roles.close_roles.Tie as tie
 
@@ -36,7 +36,7 @@ loop-less c = search rules
 loop-again : tie.Need-loop-preserved invariant-loop decreases-loop
 loop-again c =
     let l = c.before.before.loop in
-    (search rules, through-exact c.before.before.before.before.before.args.b.now l.k l.square c.through.result (omega (arith, c.before.loop-test.true)) l.invariant.1 c.through.ensures)
+    (search rules, through_exact c.before.before.before.before.before.args.b.now l.k l.square c.through.result (omega (arith, c.before.loop-test.true)) l.invariant.1 c.through.ensures)
 
 returns : tie.Need-returns invariant-loop decreases-loop
 returns c =

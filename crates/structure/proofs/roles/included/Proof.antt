@@ -5,10 +5,10 @@ use borrow.Author.Rules.{rules}
 use mathlib.Core.Path.{◌≡◌, subst}
 use mathlib.Core.Logic.{◌⊎◌, inl, ⊎_elim}
 use Rattle.catalogue.specs.Header.{inclusions}
-use Rattle.catalogue.proofs.Bounds.{header_within, inclusion-within}
+use Rattle.catalogue.proofs.Bounds.{header_within, inclusion_within}
 use Rattle.structure.specs.Square.{Included, Sized, MarksExactly}
-use Rattle.structure.proofs.Squares.{put, put-sized, put-exact, exactly_same}
-use Rattle.structure.proofs.Reachability.{included-more}
+use Rattle.structure.proofs.Squares.{put, put_sized, put_exact, exactly_same}
+use Rattle.structure.proofs.Reachability.{included_more}
 use Rattle.structure.proofs.roles.included.Statement.{statement}
 use Rattle.structure.proofs.roles.included.Tie as tie
 
@@ -19,17 +19,17 @@ abbrev decreases-loop : tie.decreases-loop
 decreases-loop b square₀ count k₀ square k = count - k
 
 -- The roles of the inclusion that a turn reads.
-within-limit : (c : tie.After-at invariant-loop decreases-loop) → c.at.result.within < 16
-within-limit c =
+within_limit : (c : tie.After-at invariant-loop decreases-loop) → c.at.result.within < 16
+within_limit c =
     let w = c.before.before.before.before.before.before.requires in
     let l = rw c.before.before.before.inclusions.ensures at c.before.loop-test.true in
-    omega (arith, c.at.ensures.within-is, (w.inclusion c.before.before.loop.k l).0, w.roles-limit)
+    omega (arith, c.at.ensures.within_is, (w.inclusion c.before.before.loop.k l).0, w.roles_limit)
 
-around-limit : (c : tie.After-at invariant-loop decreases-loop) → c.at.result.around < 16
-around-limit c =
+around_limit : (c : tie.After-at invariant-loop decreases-loop) → c.at.result.around < 16
+around_limit c =
     let w = c.before.before.before.before.before.before.requires in
     let l = rw c.before.before.before.inclusions.ensures at c.before.loop-test.true in
-    omega (arith, c.at.ensures.around-is, (w.inclusion c.before.before.loop.k l).1, w.roles-limit)
+    omega (arith, c.at.ensures.around_is, (w.inclusion c.before.before.loop.k l).1, w.roles_limit)
 
 reflexive-requires : tie.Need-reflexive-requires invariant-loop decreases-loop
 reflexive-requires c κs = search rules
@@ -44,16 +44,16 @@ loop-holds c =
 
 at-requires : tie.Need-at-requires invariant-loop decreases-loop
 at-requires c κs =
-    inclusion-within c.before.before.before.before.before.requires (rw c.before.before.inclusions.ensures at c.loop-test.true)
+    inclusion_within c.before.before.before.before.before.requires (rw c.before.before.inclusions.ensures at c.loop-test.true)
 
 mul-square : tie.Need-overflow-mul-square invariant-loop decreases-loop
-mul-square c = omega (arith, within-limit c)
+mul-square c = omega (arith, within_limit c)
 
 index-1-square : tie.Need-bounds-1-square invariant-loop decreases-loop
-index-1-square c = within-limit c
+index-1-square c = within_limit c
 
 index-2-square : tie.Need-bounds-2-square invariant-loop decreases-loop
-index-2-square c = around-limit c
+index-2-square c = around_limit c
 
 add-k : tie.Need-overflow-add-k invariant-loop decreases-loop
 add-k c = search rules
@@ -69,10 +69,10 @@ loop-again c =
     let y = c.at.result.around in
     let e = c.at.ensures in (
       search rules,
-      put-sized l.square x y l.invariant.1 (within-limit c),
+      put_sized l.square x y l.invariant.1 (within_limit c),
       exactly_same (λ r s. Included b l.k r s ⊎ ((r ≡ x) × (s ≡ y))) (Included b (l.k + 1)) (put l.square x y)
-          (λ r s _ _. rw (e.within-is, e.around-is) (included-more b l.k r s))
-          (put-exact l.square x y l.invariant.1 (within-limit c) (Included b l.k) (around-limit c) l.invariant.2),
+          (λ r s _ _. rw (e.within_is, e.around_is) (included_more b l.k r s))
+          (put_exact l.square x y l.invariant.1 (within_limit c) (Included b l.k) (around_limit c) l.invariant.2),
     )
 
 returns : tie.Need-returns invariant-loop decreases-loop

@@ -6,7 +6,7 @@ use borrow.Author.Rules.{rules}
 use mathlib.Core.Path.{◌≡◌, sym, ◌∙◌}
 use mathlib.Core.Logic.{◌⊎◌, inl, inr, ⊎_elim}
 use Rattle.structure.specs.Square.{Sized, MarksExactly}
-use Rattle.structure.proofs.Squares.{blank-sized, blank-exact, put-sized, put-exact, exactly_same}
+use Rattle.structure.proofs.Squares.{blank_sized, blank_exact, put_sized, put_exact, exactly_same}
 use Rattle.structure.proofs.roles.reflexive.Statement.{statement}
 use Rattle.structure.proofs.roles.reflexive.Tie as tie
 
@@ -20,7 +20,7 @@ abbrev decreases-loop : tie.decreases-loop
 decreases-loop square₀ role₀ square role = 16 - role
 
 loop-holds : tie.Need-loop-init invariant-loop decreases-loop
-loop-holds c = (search rules, blank-sized, blank-exact (λ x y. (x ≡ y) × (x < 0)) (λ x y p. omega (arith, p.1)))
+loop-holds c = (search rules, blank_sized, blank_exact (λ x y. (x ≡ y) × (x < 0)) (λ x y p. omega (arith, p.1)))
 
 mul-square : tie.Need-overflow-mul-square invariant-loop decreases-loop
 mul-square c = search rules
@@ -44,9 +44,9 @@ loop-again c =
     let i = c.before.loop.invariant in
     let l : r < 16 = omega (arith, c.loop-test.true) in (
       search rules,
-      put-sized q r r i.1 l,
+      put_sized q r r i.1 l,
       exactly_same (λ x y. ((x ≡ y) × (x < r)) ⊎ ((x ≡ r) × (y ≡ r))) (λ x y. (x ≡ y) × (x < r + 1)) _ (λ x y _ _. (⊎_elim (λ p. (p.0, omega (arith, p.1))) (λ p. (p.0 ∙ sym p.1, omega (arith, p.0))), λ p. more r x y p.0 p.1))
-          (put-exact q r r i.1 l (λ x y. (x ≡ y) × (x < r)) l i.2),
+          (put_exact q r r i.1 l (λ x y. (x ≡ y) × (x < r)) l i.2),
     )
 
 returns : tie.Need-returns invariant-loop decreases-loop

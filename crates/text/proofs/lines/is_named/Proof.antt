@@ -21,8 +21,8 @@ returns : tie.Need-returns
 unfolding named
 returns c =
     let a = c.before.before.before.before.before.before.before.args in
-    ap₂ (λ (k : ℕ) (t : Bool). eqb k 0 && t) c.before.before.before.before.at.ensures.kind-is
-    (ap₂ (λ (k : ℕ) (t : Bool). eqb k 0 && (not (eqb a.c a.d) && t)) c.before.before.before.at2.ensures.kind-is c.has-pair.ensures)
+    ap₂ (λ (k : ℕ) (t : Bool). eqb k 0 && t) c.before.before.before.before.at.ensures.kind_is
+    (ap₂ (λ (k : ℕ) (t : Bool). eqb k 0 && (not (eqb a.c a.d) && t)) c.before.before.before.at2.ensures.kind_is c.has-pair.ensures)
 
 pub is_named_spec : {M : Type 1} → statement M
 is_named_spec = tie.close (tie.spec at-requires at-requires-2 has-pair-requires returns)

@@ -7,7 +7,7 @@ use Rattle.layout.specs.Parts.{held}
 use Rattle.text.specs.Text.{Appended, summary}
 use Rattle.text.specs.Lines.{pair_lines, listing}
 use Rattle.text.proofs.Appending.{appended_more}
-use Rattle.text.proofs.Decimals.{summary-most}
+use Rattle.text.proofs.Decimals.{summary_most}
 use borrow.Author.Rules.{rules}
 use Rattle.text.proofs.lines.listing_text.Statement.{statement}
 use Rattle.text.proofs.lines.listing_text.Tie as tie
@@ -27,7 +27,7 @@ put-rows-requires c κs =
     let n = c.before.before.before.before.before.concepts.result in
     let a = c.before.before.before.before.axioms.result in
     let summed = c.before.before.before.summary-text in
-    let short = summary-most n a s.args.pairs s.args.links (search rules) (search rules) (omega (arith, s.well_formed)) (omega (arith, s.well_formed)) in
+    let short = summary_most n a s.args.pairs s.args.links (search rules) (search rules) (omega (arith, s.well_formed)) (omega (arith, s.well_formed)) in
     (s.requires.0, omega (arith, s.requires.1, summed.ensures.ends, summed.auto.0, short))
 
 same_length : tie.Need-same-length

@@ -5,7 +5,7 @@ use mathlib.Core.Bool.{Bool, cond}
 use mathlib.Core.List.{[]}
 use Rattle.text.specs.Text.{pair_line, Appended}
 use Rattle.text.proofs.Appending.{appended_nothing}
-use Rattle.text.proofs.Listing.{pair_line-most}
+use Rattle.text.proofs.Listing.{pair_line_most}
 use borrow.Author.Rules.{rules}
 use Rattle.text.proofs.lines.put_named.Statement.{statement}
 use Rattle.text.proofs.lines.put_named.Tie as tie
@@ -17,8 +17,8 @@ put-pair-requires : tie.Need-put-pair-requires
 put-pair-requires c κs =
     let s = c.before.before.before.before.before.before in
     let (sized, lower, upper, room) = s.requires in
-    let limit = sized.well_formed.concepts-limit in
-    omega (arith, pair_line-most s.args.c s.args.d (omega (arith, lower, limit)) (omega (arith, upper, limit)), room)
+    let limit = sized.well_formed.concepts_limit in
+    omega (arith, pair_line_most s.args.c s.args.d (omega (arith, lower, limit)) (omega (arith, upper, limit)), room)
 
 same_length : tie.Need-same-length
 same_length c = search rules

@@ -8,7 +8,7 @@ use Rattle.catalogue.specs.Header.{concepts}
 use Rattle.layout.specs.Parts.{held}
 use Rattle.text.specs.Text.{Appended}
 use Rattle.text.specs.Lines.{lines_below, row_lines}
-use Rattle.text.proofs.Listing.{lines_below-most, lines_none, lines_step}
+use Rattle.text.proofs.Listing.{lines_below_most, lines_none, lines_step}
 use Rattle.text.proofs.lines.put_row.Statement.{statement}
 use Rattle.text.proofs.lines.put_row.Tie as tie
 
@@ -32,14 +32,14 @@ put-named-requires c κs =
     let (most, long, lines) = c.before.before.loop.invariant in
     let n = c.before.before.before.concepts.ensures in
     let test = c.before.loop-test.true in
-    let limit = sized.well_formed.concepts-limit in
+    let limit = sized.well_formed.concepts_limit in
     let b = s.args.b.now in
-    let short = lines_below-most b (held b s.args.store.now) s.args.c c.before.before.loop.d (omega (arith, below, limit)) (omega (arith, n, test, limit)) in
+    let short = lines_below_most b (held b s.args.store.now) s.args.c c.before.before.loop.d (omega (arith, below, limit)) (omega (arith, n, test, limit)) in
     (sized, below, omega (arith, n, test), omega (arith, n, test, limit, lines.ends, short, long, room))
 
 add-d : tie.Need-overflow-add-d invariant-loop decreases-loop
 add-d c =
-    omega (arith, c.before.before.before.before.loop-test.true, c.before.before.before.before.before.before.concepts.ensures, c.before.before.before.before.before.before.before.before.before.before.requires.0.well_formed.concepts-limit)
+    omega (arith, c.before.before.before.before.loop-test.true, c.before.before.before.before.before.before.concepts.ensures, c.before.before.before.before.before.before.before.before.before.before.requires.0.well_formed.concepts_limit)
 
 loop-less : tie.Need-loop-smaller invariant-loop decreases-loop
 loop-less c = omega (arith, c.before.before.before.before.loop-test.true)

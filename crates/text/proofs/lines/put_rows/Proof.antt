@@ -8,7 +8,7 @@ use Rattle.catalogue.specs.Header.{concepts}
 use Rattle.layout.specs.Parts.{held}
 use Rattle.text.specs.Text.{Appended}
 use Rattle.text.specs.Lines.{rows_below, pair_lines}
-use Rattle.text.proofs.Listing.{rows_below-most, rows_none, rows_step}
+use Rattle.text.proofs.Listing.{rows_below_most, rows_none, rows_step}
 use Rattle.text.proofs.lines.put_rows.Statement.{statement}
 use Rattle.text.proofs.lines.put_rows.Tie as tie
 
@@ -32,14 +32,14 @@ put-row-requires c κs =
     let (most, long, lines) = c.before.before.loop.invariant in
     let n = c.before.before.before.concepts.ensures in
     let test = c.before.loop-test.true in
-    let limit = sized.well_formed.concepts-limit in
+    let limit = sized.well_formed.concepts_limit in
     let b = s.args.b.now in
-    let short = rows_below-most b (held b s.args.store.now) c.before.before.loop.c limit (omega (arith, n, test)) in
+    let short = rows_below_most b (held b s.args.store.now) c.before.before.loop.c limit (omega (arith, n, test)) in
     (sized, omega (arith, n, test), omega (arith, n, test, limit, lines.ends, short, long, room))
 
 add-c : tie.Need-overflow-add-c invariant-loop decreases-loop
 add-c c =
-    omega (arith, c.before.before.before.before.loop-test.true, c.before.before.before.before.before.before.concepts.ensures, c.before.before.before.before.before.before.before.before.before.before.requires.0.well_formed.concepts-limit)
+    omega (arith, c.before.before.before.before.loop-test.true, c.before.before.before.before.before.before.concepts.ensures, c.before.before.before.before.before.before.before.before.before.before.requires.0.well_formed.concepts_limit)
 
 loop-less : tie.Need-loop-smaller invariant-loop decreases-loop
 loop-less c = omega (arith, c.before.before.before.before.loop-test.true)

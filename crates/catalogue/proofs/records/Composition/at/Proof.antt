@@ -21,7 +21,7 @@ returns : tie.Need-returns
 unfolding role1 role2 result
 returns c =
     let start = c.before.compositions-at.ensures in
-    record { first-is = c.from-slice.ensures.0 ∙ rw start; second_is = c.from-slice.ensures.1 ∙ rw start; result-is = c.from-slice.ensures.2 ∙ rw start }
+    record { first_is = c.from-slice.ensures.0 ∙ rw start; second_is = c.from-slice.ensures.1 ∙ rw start; result_is = c.from-slice.ensures.2 ∙ rw start }
 
 pub at_spec : {M : Type 1} → statement M
 at_spec = tie.close (tie.spec compositions-at-requires mul-from-slice add-from-slice from-slice-requires returns)

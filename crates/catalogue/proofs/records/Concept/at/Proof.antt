@@ -53,8 +53,8 @@ returns : tie.Need-returns
 unfolding kind first second
 returns c =
     record {
-      kind-is = c.from_bytes.ensures.0 ∙ two_bytes _ _ _ _ (omega arith) (omega arith);
-      first-is = c.from_bytes.ensures.1 ∙ two_bytes _ _ _ _ (omega arith) (omega arith);
+      kind_is = c.from_bytes.ensures.0 ∙ two_bytes _ _ _ _ (omega arith) (omega arith);
+      first_is = c.from_bytes.ensures.1 ∙ two_bytes _ _ _ _ (omega arith) (omega arith);
       second_is = c.from_bytes.ensures.2 ∙ two_bytes _ _ _ _ (omega arith) (omega arith);
     }
 

@@ -21,7 +21,7 @@ returns : tie.Need-returns
 unfolding within around
 returns c =
     let start = c.before.inclusions-at.ensures in
-    record { within-is = c.from-slice.ensures.0 ∙ rw start; around-is = c.from-slice.ensures.1 ∙ rw start }
+    record { within_is = c.from-slice.ensures.0 ∙ rw start; around_is = c.from-slice.ensures.1 ∙ rw start }
 
 pub at_spec : {M : Type 1} → statement M
 at_spec = tie.close (tie.spec inclusions-at-requires mul-from-slice add-from-slice from-slice-requires returns)
