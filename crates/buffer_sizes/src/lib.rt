@@ -8,7 +8,7 @@ use catalogue::{Axiom, Verdict, concepts};
 use layout::{used, work_used};
 
 // What is needed: bytes of a store, of a work space and of a list, and the most that write gives; or the number and record of the refusal.
-#[derive(Drop)]
+#[derive(Clone, Copy)]
 pub enum Sizes {
     Needed(usize, usize, usize, usize),
     Refused(usize, usize),

@@ -6,7 +6,7 @@ pub mod calls; // calls.rt: the calls in a row
 pub use calls::carry_out;
 
 // So many calls carried out; or the first call that is cut, of no kind that it may be, or with a list longer than its room; or no room for the calls' lists, or for their answers.
-#[derive(Drop)]
+#[derive(Clone, Copy)]
 pub enum Carried {
     Done(usize),
     BadCall(usize),

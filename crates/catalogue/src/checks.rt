@@ -13,14 +13,14 @@ use super::header::{axioms, compositions, concepts, inclusions, roles};
 use super::records::{Axiom, Composition, Concept, Inclusion};
 
 // What the checks answer: accepted, or refused with the number of the question and the record at fault.
-#[derive(Drop)]
+#[derive(Clone, Copy)]
 pub enum Verdict {
     Accepted,
     Refused(usize, usize),
 }
 
 // A question that is put to every record of a section.
-#[derive(Drop)]
+#[derive(Clone, Copy)]
 enum RecordCheck {
     Kind,
     Fields,

@@ -8,7 +8,7 @@ use super::header;
 use super::header::{number, word};
 
 // A concept: its kind, and its two parts or zeros.
-#[derive(Drop)]
+#[derive(Clone, Copy)]
 pub struct Concept {
     pub kind: usize,
     pub first: usize,
@@ -52,7 +52,7 @@ impl Concept {
 }
 
 // An inclusion: the role `within` lies within the role `around`.
-#[derive(Drop)]
+#[derive(Clone, Copy)]
 pub struct Inclusion {
     pub within: usize,
     pub around: usize,
@@ -84,7 +84,7 @@ impl Inclusion {
 }
 
 // A composition: the roles `first` and `second`, and the role that they give.
-#[derive(Drop)]
+#[derive(Clone, Copy)]
 pub struct Composition {
     pub first: usize,
     pub second: usize,
@@ -118,7 +118,7 @@ impl Composition {
 }
 
 // An axiom: the concept `left` is subsumed by the concept `right`.
-#[derive(Drop)]
+#[derive(Clone, Copy)]
 pub struct Axiom {
     pub left: usize,
     pub right: usize,

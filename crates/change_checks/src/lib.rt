@@ -6,7 +6,7 @@ pub mod asking; // asking.rt: all questions
 pub use asking::check_all;
 
 // What an axiom of the lists can be refused for: it repeats one before it (23), a side of it is no concept (15), it is not in force (18), it is (16).
-#[derive(Drop)]
+#[derive(Clone, Copy)]
 pub enum Fault {
     Repeated,
     Beyond,

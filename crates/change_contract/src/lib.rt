@@ -6,7 +6,7 @@ use catalogue::Axiom;
 
 // The counts of expressions removed, returned and gained, and of concepts listed as touched; or the number of the question that was answered no, and the
 // record at fault.
-#[derive(Drop)]
+#[derive(Clone, Copy)]
 pub enum Changed {
     Done(usize, usize, usize, usize),
     Refused(usize, usize),

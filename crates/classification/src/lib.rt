@@ -5,7 +5,7 @@ pub mod calls; // calls.rt: classify, by questions 1 to 11
 pub use calls::classify;
 
 // The counts of pairs and of links; or the number of the question that was answered no, and the record at fault.
-#[derive(Drop)]
+#[derive(Clone, Copy)]
 pub enum Classified {
     Done(usize, usize),
     Refused(usize, usize),

@@ -8,7 +8,7 @@ use libc::{STDERR_FILENO, STDOUT_FILENO};
 use text::{listing_text, refusal_text};
 
 // What a run of the program came to: a text of so many bytes, or an input that could not be read.
-#[derive(Drop)]
+#[derive(Clone, Copy)]
 pub enum Listing {
     Text(usize),
     Unread,

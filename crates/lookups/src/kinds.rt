@@ -10,7 +10,7 @@ use catalogue::{Concept, Verdict};
 use read_checks::check_listing;
 
 // What a listing answers.
-#[derive(Drop)]
+#[derive(Clone, Copy)]
 pub enum Listed {
     Count(usize),
     Refused(usize, usize),

@@ -10,7 +10,7 @@ use layout::pair_offset;
 use read_checks::check_reading;
 
 // What a lookup answers.
-#[derive(Drop)]
+#[derive(Clone, Copy)]
 pub enum Looked {
     Yes,
     No,

@@ -6,7 +6,7 @@ ghost use Rattle.reader.specs.Copied.{copied};
 
 use catalogue::word;
 
-#[derive(Drop)]
+#[derive(Clone, Copy)]
 pub struct Reader<'a> {
     pub src: &'a [u8],
     pub at: usize,

@@ -28,7 +28,7 @@ pub fn is_short(answer: &[u64]) -> bool
 }
 
 // What an exported call replies: the four entries, or the refusal's number and record.
-#[derive(Drop)]
+#[derive(Clone, Copy)]
 pub enum Reply {
     Accepted(usize, usize, usize, usize),
     Refused(usize, usize),

@@ -7,7 +7,7 @@ use layout::{Shape, pair_offset};
 use read_checks::check_reading;
 
 // What a row's call answers: the byte of the store at which the row begins and how many it has, or the refusal.
-#[derive(Drop)]
+#[derive(Clone, Copy)]
 pub enum Handed {
     Row(usize, usize),
     Refused(usize, usize),
@@ -51,7 +51,7 @@ pub fn row<'a>(b: &[u8], c: usize, store: &'a [u8]) -> &'a [u8]
 }
 
 // A row asked for: the part, and the answer beside it.
-#[derive(Drop)]
+#[derive(Clone, Copy)]
 pub struct RowAnswer<'a> {
     pub part: &'a [u8],
     pub answer: Handed,

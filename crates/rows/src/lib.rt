@@ -1,4 +1,6 @@
 // Bit rows: bit i of a row is bit i mod 8 of byte i div 8, bit 0 the lowest. Nothing here knows of catalogues.
+#![tactic(auto)]
+
 pub mod walking; // walking.rt: the marked numbers of a row, and the union of the rows that it marks
 
 ghost use Rattle.std.specs.Prelude.{◌≡◌, ◌+◌, ◌*◌, ◌≤◌, ◌<◌, length};
@@ -9,7 +11,7 @@ ghost use Rattle.rows.specs.Words.{number_at};
 pub use walking::gather;
 
 // The lowest set bit from a given one on, or none.
-#[derive(Drop)]
+#[derive(Clone, Copy)]
 pub enum Found {
     At(usize),
     Nothing,

@@ -13,7 +13,7 @@ use reader::{copy_numbers, put_number};
 use rows::next_below;
 
 // What write answers: how many bytes it wrote, or the number and record of the refusal.
-#[derive(Drop)]
+#[derive(Clone, Copy)]
 pub enum Wrote {
     Length(usize),
     Refused(usize, usize),

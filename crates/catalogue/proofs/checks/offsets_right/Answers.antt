@@ -1,0 +1,70 @@
+-- `offsets_right` is question 4: numbers of sixteen bits, so that no sum wraps.
+use borrow.Author.Rules.{rules}
+use native.Mathlib.Omega.{arith}
+use Rattle.catalogue.specs.Header.{concepts, inclusions, compositions, axioms, concepts_at, inclusions_at, compositions_at, axioms_at}
+use Rattle.catalogue.specs.Checks.{offsets_right}
+use Rattle.catalogue.proofs.Words.{word_below}
+use Rattle.catalogue.proofs.checks.offsets_right.Goals as goal
+
+pub overflow_mul-result : goal.overflow_mul-result
+unfolding concepts
+overflow_mul-result c =
+    let s = (goal.at.overflow_mul-result c).After-shared_slice_known-1 in
+    omega (arith, word_below s.before.args.b.now s.shared-slice-known.given 2)
+
+pub overflow_add-result : goal.overflow_add-result
+unfolding concepts concepts_at
+overflow_add-result c =
+    let s = (goal.at.overflow_add-result c).After-shared_slice_known-1 in
+    omega (arith, word_below s.before.args.b.now s.shared-slice-known.given 2, word_below s.before.args.b.now s.shared-slice-known.given 12)
+
+pub overflow_mul-result-2 : goal.overflow_mul-result-2
+unfolding inclusions
+overflow_mul-result-2 c =
+    let s = (goal.at.overflow_mul-result-2 c).After-shared_slice_known-1 in
+    omega (arith, word_below s.before.args.b.now s.shared-slice-known.given 6)
+
+pub overflow_add-result-2 : goal.overflow_add-result-2
+unfolding inclusions inclusions_at
+overflow_add-result-2 c =
+    let s = (goal.at.overflow_add-result-2 c).After-shared_slice_known-1 in
+    omega (arith, word_below s.before.args.b.now s.shared-slice-known.given 6, word_below s.before.args.b.now s.shared-slice-known.given 14)
+
+pub overflow_mul-result-3 : goal.overflow_mul-result-3
+unfolding compositions
+overflow_mul-result-3 c =
+    let s = (goal.at.overflow_mul-result-3 c).After-shared_slice_known-1 in
+    omega (arith, word_below s.before.args.b.now s.shared-slice-known.given 8)
+
+pub overflow_add-result-3 : goal.overflow_add-result-3
+unfolding compositions compositions_at
+overflow_add-result-3 c =
+    let s = (goal.at.overflow_add-result-3 c).After-shared_slice_known-1 in
+    omega (arith, word_below s.before.args.b.now s.shared-slice-known.given 8, word_below s.before.args.b.now s.shared-slice-known.given 16)
+
+pub overflow_mul-result-4 : goal.overflow_mul-result-4
+unfolding axioms
+overflow_mul-result-4 c =
+    let s = (goal.at.overflow_mul-result-4 c).After-shared_slice_known-1 in
+    omega (arith, word_below s.before.args.b.now s.shared-slice-known.given 10)
+
+pub overflow_add-result-4 : goal.overflow_add-result-4
+unfolding axioms axioms_at
+overflow_add-result-4 c =
+    let s = (goal.at.overflow_add-result-4 c).After-shared_slice_known-1 in
+    omega (arith, word_below s.before.args.b.now s.shared-slice-known.given 10, word_below s.before.args.b.now s.shared-slice-known.given 18)
+
+pub returns : goal.returns
+unfolding offsets_right
+returns c =
+    simp (
+      c.concepts_at-c.ensures,
+      c.inclusions_at-i.ensures,
+      c.compositions_at-p.ensures,
+      c.axioms_at-a.ensures,
+      c.concepts.ensures,
+      c.inclusions.ensures,
+      c.compositions.ensures,
+      c.total.ensures,
+      c.axioms.ensures,
+    )

@@ -1,0 +1,8 @@
+-- `compositions` reads its field of the header.
+use borrow.Author.Rules.{rules}
+use Rattle.catalogue.specs.Header.{compositions}
+use Rattle.catalogue.proofs.header.compositions.Goals as goal
+
+pub returns : goal.returns
+unfolding compositions
+returns c = c.word.ensures

@@ -1,0 +1,8 @@
+-- `concepts_at` reads its field of the header.
+use borrow.Author.Rules.{rules}
+use Rattle.catalogue.specs.Header.{concepts_at}
+use Rattle.catalogue.proofs.header.concepts_at.Goals as goal
+
+pub returns : goal.returns
+unfolding concepts_at
+returns c = c.word.ensures

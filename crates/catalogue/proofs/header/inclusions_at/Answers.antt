@@ -1,0 +1,8 @@
+-- `inclusions_at` reads its field of the header.
+use borrow.Author.Rules.{rules}
+use Rattle.catalogue.specs.Header.{inclusions_at}
+use Rattle.catalogue.proofs.header.inclusions_at.Goals as goal
+
+pub returns : goal.returns
+unfolding inclusions_at
+returns c = c.word.ensures

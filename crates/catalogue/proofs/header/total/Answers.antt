@@ -1,0 +1,8 @@
+-- `total` reads its field of the header.
+use borrow.Author.Rules.{rules}
+use Rattle.catalogue.specs.Header.{total}
+use Rattle.catalogue.proofs.header.total.Goals as goal
+
+pub returns : goal.returns
+unfolding total
+returns c = c.word.ensures

@@ -1,0 +1,17 @@
+-- `rows::count_by_bytes` meets its contract: what is counted below the given byte and the total make the count of the bytes passed.
+use mathlib.Core.Path.{◌≡◌, sym, ap, ◌∙◌}
+use borrow.Author.Rules.{rules}
+use Prim.Native.Nat.{ℕ, ◌+◌, ◌-◌, ◌*◌, ◌≤◌}
+use native.Mathlib.Nat.{add-zero, add_assoc}
+use native.Mathlib.Omega.{arith}
+use lib.ListN.{length, get_or}
+use lib.Count.{ones, ones-le}
+use Rattle.rows.specs.Bits.{bit, count_below, count_bits}
+use Rattle.rows.proofs.Counting.{count_byte, count_le}
+use Rattle.rows.proofs.count_by_bytes.Given as goal
+
+abbrev pub invariant-loop-k : goal.invariant-loop-k
+invariant-loop-k l = (l.k ≤ length l.row) × (count_below (bit l.row) (8 * l.from) + l.total ≡ count_below (bit l.row) (8 * l.k))
+
+abbrev pub decreases-loop-k : goal.decreases-loop-k
+decreases-loop-k l = length l.row - l.k

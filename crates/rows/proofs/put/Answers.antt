@@ -1,0 +1,17 @@
+-- `rows::put` meets its contract: one shifted by a place is the power of two with that place.
+use Prim.Native.Nat.{ℕ, ◌/◌, ◌%◌}
+use native.Mathlib.Omega.{arith}
+use mathlib.Core.Path.{ap}
+use lib.ListN.{get_or, set}
+use lib.Bits.{bit_or}
+use Rattle.rows.specs.Bits.{set_bit}
+use Rattle.rows.proofs.Bits.{shifted_one}
+use borrow.Author.Rules.{rules}
+use Rattle.rows.proofs.put.Goals as goal
+
+pub returns : goal.returns
+unfolding set_bit
+returns c =
+    let row = c.args.row.now in
+    let i = c.args.i in
+    ap (λ (x : ℕ). set row (i / 8) (bit_or (get_or row (i / 8) 0) x)) (shifted_one (i % 8) (omega arith))
