@@ -33,6 +33,37 @@ pub work_used-work_end-requires : goal.work_used-work_end-requires
 work_used-work_end-requires c =
     accepted_well_formed c.requires
 
+pub slice_bounds-fill-end : goal.slice_bounds-fill-end
+slice_bounds-fill-end c =
+    let store_fits_gave = c.store_fits in
+    let if1_gave = c.if-not-store_fits in
+    let work_fits_gave = c.work_fits in
+    let f = accepted_fits c.args.b.now (length c.args.store.now) (length c.args.work.now) (all_accepted c.args.b.now (length c.args.store.now) (length c.args.work.now) c.requires (sym store_fits_gave.ensures ∙ if1_gave.false) (sym work_fits_gave.ensures ∙ c.if-not-work_fits.false)) in omega (arith, f.store_long, c.used-store_end.ensures)
+
+pub slice_bounds-fill-end-2 : goal.slice_bounds-fill-end-2
+slice_bounds-fill-end-2 c =
+    let store_fits_gave = c.store_fits in
+    let if1_gave = c.if-not-store_fits in
+    let work_fits_gave = c.work_fits in
+    let if2_gave = c.if-not-work_fits in
+    let f = accepted_fits c.args.b.now (length c.args.store.now) (length c.args.work.now) (all_accepted c.args.b.now (length c.args.store.now) (length c.args.work.now) c.requires (sym store_fits_gave.ensures ∙ if1_gave.false) (sym work_fits_gave.ensures ∙ if2_gave.false)) in sym (length-take-le c.used-store_end.result c.args.store.now (omega (arith, f.store_long, c.used-store_end.ensures)))
+
+pub slice_bounds-fill-end-3 : goal.slice_bounds-fill-end-3
+slice_bounds-fill-end-3 c =
+    let store_fits_gave = c.store_fits in
+    let if1_gave = c.if-not-store_fits in
+    let work_fits_gave = c.work_fits in
+    let if2_gave = c.if-not-work_fits in
+    let f = accepted_fits c.args.b.now (length c.args.store.now) (length c.args.work.now) (all_accepted c.args.b.now (length c.args.store.now) (length c.args.work.now) c.requires (sym store_fits_gave.ensures ∙ if1_gave.false) (sym work_fits_gave.ensures ∙ if2_gave.false)) in omega (arith, f.work_long, c.work_used-work_end.ensures)
+
+pub slice_bounds-fill-end-4 : goal.slice_bounds-fill-end-4
+slice_bounds-fill-end-4 c =
+    let store_fits_gave = c.store_fits in
+    let if1_gave = c.if-not-store_fits in
+    let work_fits_gave = c.work_fits in
+    let if2_gave = c.if-not-work_fits in
+    let f = accepted_fits c.args.b.now (length c.args.store.now) (length c.args.work.now) (all_accepted c.args.b.now (length c.args.store.now) (length c.args.work.now) c.requires (sym store_fits_gave.ensures ∙ if1_gave.false) (sym work_fits_gave.ensures ∙ if2_gave.false)) in sym (length-take-le c.work_used-work_end.result c.args.work.now (omega (arith, f.work_long, c.work_used-work_end.ensures)))
+
 pub fill-requires : goal.fill-requires
 fill-requires c =
     let store_fits_gave = c.store_fits in
