@@ -4,7 +4,6 @@ ghost use Rattle.layout.specs.Layout.{Shaped, table_length};
 ghost use Rattle.axiom_rows.specs.Putting.{MarksAxioms, PutsAxioms};
 
 use super::marking::mark_axioms;
-use bytes::copy;
 use catalogue::header::axioms_at;
 use derivation::Mode;
 use layout::Shape;
@@ -27,5 +26,5 @@ pub fn put_axioms(b: &[u8], s: Shape, store: &mut [u8], table: &mut [u8])
     let end = table.len();
     clear(&mut store[..end]);
     axiom_rows(b, s, &mut store[..end]);
-    copy(&store[..end], table);
+    table.copy_from_slice(&store[..end]);
 }

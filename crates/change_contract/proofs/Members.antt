@@ -72,12 +72,12 @@ member_exact n T names p c = (
 unfoldable pub on_list : List ℕ → ℕ → Bool
 on_list names c = some (λ x. eqb x c) names
 
-on_list : (names : List ℕ) (c : ℕ) → on_list names c ≡ true → Memᴰ c names
+on_list_lem : (names : List ℕ) (c : ℕ) → on_list names c ≡ true → Memᴰ c names
 unfolding on_list some
-on_list [] c e = absurd (false≢true e)
-on_list (x ∷ names) c e =
-    ⊎_elim (λ h. mathlib.Core.List.Memᴰ.head (sym (eqb-true x c h))) (λ h. mathlib.Core.List.Memᴰ.tail (on_list names c h)) ((either (eqb x c) (some (λ x. eqb x c) names)).0 e)
+on_list_lem [] c e = absurd (false≢true e)
+on_list_lem (x ∷ names) c e =
+    ⊎_elim (λ h. mathlib.Core.List.Memᴰ.head (sym (eqb-true x c h))) (λ h. mathlib.Core.List.Memᴰ.tail (on_list_lem names c h)) ((either (eqb x c) (some (λ x. eqb x c) names)).0 e)
 
 pub on_list_exact : (names : List ℕ) (c : ℕ) → (on_list names c ≡ true) ↔ Memᴰ c names
 unfolding on_list
-on_list_exact names c = (on_list names c, λ m. true_some (λ x. eqb x c) names c m (eq-eqb c c refl))
+on_list_exact names c = (on_list_lem names c, λ m. true_some (λ x. eqb x c) names c m (eq-eqb c c refl))

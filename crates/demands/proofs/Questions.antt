@@ -23,7 +23,7 @@ use Rattle.rules.specs.Axioms.{Axioms}
 use Rattle.rules.specs.Occurrence.{occurs}
 use Rattle.rules.proofs.Occurrence.{occurs_exact}
 use Rattle.layout.specs.Parts.{width, used, work_used, in_force, row_count, set_from, spare_clear}
-use Rattle.layout.proofs.StoreRows.{spare_clear, in_force_range}
+use Rattle.layout.proofs.StoreRows.{spare_clear_lem, in_force_range}
 use Rattle.store.specs.Checks.{every, store_fits, work_fits, list_fits, axioms_in_limit}
 use Rattle.store.specs.Checks.{ask_store, ask_work, ask_list, ask_spare, ask_limit, ask_numbers}
 use Rattle.store.specs.Written.{axiom_count, written}
@@ -113,7 +113,7 @@ module _ (b : List ℕ) (u : Buffers) where
     unfolding ask_spare
     spare_asked more =
         step stray_bit (spare_clear b u.store) 13 refl (stray b u.store)
-        (λ e (r, i, lr, low, high, set). not-both set (spare_clear b u.store e r i lr low high)) more
+        (λ e (r, i, lr, low, high, set). not-both set (spare_clear_lem b u.store e r i lr low high)) more
 
     limit_asked : ByFirst b u fs rest → ByFirst b u (too_many_axioms ∷ fs) (ask_limit (axioms_in_limit b (in_force b u.store)) rest)
     unfolding ask_limit axioms_in_limit

@@ -103,9 +103,9 @@ link_row_bit b store c r d lc lr ld =
 
 -- ---- spare bits
 
-pub spare_clear : (b store : List ℕ) → spare_clear b store ≡ true → (r d : ℕ) → r < row_count b → concepts b ≤ d → d < 8 * width b → bit store (place (width b) r d) ≡ false
+pub spare_clear_lem : (b store : List ℕ) → spare_clear b store ≡ true → (r d : ℕ) → r < row_count b → concepts b ≤ d → d < 8 * width b → bit store (place (width b) r d) ≡ false
 unfolding spare_clear set_from
-spare_clear b store clear r d lr low high =
+spare_clear_lem b store clear r d lr low high =
     let row = none_below (set_from (width b) (concepts b) store) (row_count b) r (not-true _ clear) lr in
     let k = d - concepts b in
     ap (λ j. bit store (place (width b) r j)) (let z : d ≡ concepts b + k = omega arith in z)
@@ -159,7 +159,7 @@ in_force_range b store clear c d e =
           absurd
           (not-both e
           (in_force_bit b store c d m.concept m.bit_below
-          ∙ spare_clear b store clear c d (omega (arith, m.concept, rows_split b)) (omega arith) m.bit_below))
+          ∙ spare_clear_lem b store clear c d (omega (arith, m.concept, rows_split b)) (omega arith) m.bit_below))
     ]
 
 -- And so are the pairs and links held.
@@ -174,5 +174,5 @@ held_bounded b store clear (fact c g d) e =
           absurd
           (not-both e
           (held-bit b store c g d m.concept m.group m.bit_below
-          ∙ spare_clear b store clear (concepts b + row_of (shape_of b) c g) d (omega (arith, row, rows_split b)) (omega arith) m.bit_below))
+          ∙ spare_clear_lem b store clear (concepts b + row_of (shape_of b) c g) d (omega (arith, row, rows_split b)) (omega arith) m.bit_below))
     ]

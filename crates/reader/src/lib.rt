@@ -1,5 +1,7 @@
 // A reader over a catalogue: the lent bytes together with a position (document 01, Catalogue bytes).
 // The functions over the struct are thin and proved by hand; the work is done by functions on a slice and numbers.
+#![tactic(auto)]
+
 ghost use Rattle.std.specs.Prelude.{◌≡◌, ◌+◌, ◌*◌, ◌/◌, ◌%◌, ◌^◌, ◌<◌, ◌≤◌, length, set};
 ghost use Rattle.catalogue.specs.Words as words;
 ghost use Rattle.reader.specs.Copied.{copied};

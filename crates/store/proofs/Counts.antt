@@ -14,7 +14,7 @@ use Rattle.rows.proofs.Places.{place-within}
 use Rattle.layout.specs.Parts.{width, used, axiom_rows, in_force, spare_clear}
 use Rattle.store.specs.Written.{numbered, axiom_count}
 use Rattle.layout.proofs.StoreSizes.{rows_split, width_fits}
-use Rattle.layout.proofs.StoreRows.{rows_long, bit_axiom_rows, in_force_bit, spare_clear}
+use Rattle.layout.proofs.StoreRows.{rows_long, bit_axiom_rows, in_force_bit, spare_clear_lem}
 use Rattle.store.proofs.Written.{number-left, number-right}
 
 -- Rows of w bytes that mark F below n and nothing from n upward.
@@ -51,5 +51,5 @@ axiom_count_lem b store long clear =
     ap (λ k. count_below (bit (axiom_rows b store)) (8 * k)) (rows_long b store long)
     ∙ rows_count n w (in_force b store) (axiom_rows b store) fits
     (λ c d l h. let g : d < 8 * w = omega arith in place_in c d l g ∙ sym (in_force_bit b store c d l g))
-    (λ c d l low h. place_in c d l h ∙ spare_clear b store clear c d (omega (arith, rows_split b)) low h)
+    (λ c d l low h. place_in c d l h ∙ spare_clear_lem b store clear c d (omega (arith, rows_split b)) low h)
     n (le_refl n)

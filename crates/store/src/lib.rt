@@ -1,4 +1,6 @@
 // The store (document 01, Store): questions 10 to 14, and what occurs by its axioms.
+#![tactic(auto)]
+
 ghost use Rattle.std.specs.Prelude.{◌≡◌, not, ℕ, length};
 ghost use Rattle.catalogue.specs.WellFormed.{WellFormed};
 ghost use Rattle.rows.specs.Bits.{bit, some_below};

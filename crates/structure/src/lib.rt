@@ -1,4 +1,6 @@
 // Parts of concepts, and reach of roles.
+#![tactic(auto)]
+
 pub mod parts; // parts.rt: marking what the parts of a concept contain, and containment
 pub mod roles; // roles.rt: the square of role reach, and its one reader
 

@@ -17,8 +17,8 @@ use Rattle.store.proofs.Written.{number-left, number-right}
 use Rattle.writing.specs.Records.{Recorded, RowFits, WritesRow, in_rows, TableFits, WritesTable}
 
 -- The rows' bits as the numbers of axioms.
-in_rows : (rows : List ℕ) (n w c d : ℕ) → d < n → in_rows rows n w (c * n + d) ≡ bit rows (place w c d)
-in_rows rows n w c d l = ap₂ (λ (x y : ℕ). bit rows (place w x y)) (number-left n c d l) (number-right n c d l)
+in_rows_lem : (rows : List ℕ) (n w c d : ℕ) → d < n → in_rows rows n w (c * n + d) ≡ bit rows (place w c d)
+in_rows_lem rows n w c d l = ap₂ (λ (x y : ℕ). bit rows (place w x y)) (number-left n c d l) (number-right n c d l)
 
 next_row : (n left : ℕ) → (left + 1) * n ≡ left * n + n
 next_row n left = add-mul left 1 n ∙ ap (λ (k : ℕ). left * n + k) (one-mul n)
@@ -52,7 +52,7 @@ module _ (rows : List ℕ) (n w : ℕ) (out₀ : List ℕ) (start : ℕ) (fits :
   row_count left =
       count_add (in_rows rows n w) (left * n) n
       ∙ ap (λ (k : ℕ). count_below (in_rows rows n w) (left * n) + k)
-      (count_ext (λ (j : ℕ). in_rows rows n w (left * n + j)) (bit (row left)) n (λ d l. in_rows rows n w left d l ∙ sym (row_bit_lem left d l)))
+      (count_ext (λ (j : ℕ). in_rows rows n w (left * n + j)) (bit (row left)) n (λ d l. in_rows_lem rows n w left d l ∙ sym (row_bit_lem left d l)))
 
   module _ (out : List ℕ) (at left : ℕ) (s : TableState rows n w out₀ start out at left) (l : left < n) where
     room : at + 4 * count_below (bit (row left)) n ≤ length out

@@ -15,14 +15,14 @@ header_fits_lem : (c : Else-b-lt-SIZE) → header_fits c.args.b.now ≡ true
 unfolding header_fits
 header_fits_lem c = le-leb 20 _ c.if-b-lt-SIZE.false
 
-total_right : (c : Else-not-total_right) → total_right c.args.b.now ≡ true
-total_right c = sym c.total_right.ensures ∙ not-false _ c.if-not-total_right.false
+total_right_lem : (c : Else-not-total_right) → total_right c.args.b.now ≡ true
+total_right_lem c = sym c.total_right.ensures ∙ c.if-not-total_right.false
 
 counts_in_limits_lem : (c : Else-not-counts_in_limits) → counts_in_limits c.args.b.now ≡ true
-counts_in_limits_lem c = sym c.counts_in_limits.ensures ∙ not-false _ c.if-not-counts_in_limits.false
+counts_in_limits_lem c = sym c.counts_in_limits.ensures ∙ c.if-not-counts_in_limits.false
 
 offsets_right_lem : (c : Else-not-offsets_right) → offsets_right c.args.b.now ≡ true
-offsets_right_lem c = sym c.offsets_right.ensures ∙ not-false _ c.if-not-offsets_right.false
+offsets_right_lem c = sym c.offsets_right.ensures ∙ c.if-not-offsets_right.false
 
 pub returns-then-b-lt-SIZE : goal.returns-then-b-lt-SIZE
 unfolding ask_all checked catalogue_checks catalogue_questions header_questions header_fits
@@ -30,19 +30,19 @@ returns-then-b-lt-SIZE c = sym (ask_no 1 0 _ (lt-leb 20 _ c.if-b-lt-SIZE.true))
 
 pub returns-then-not-total_right : goal.returns-then-not-total_right
 unfolding ask_all checked catalogue_checks catalogue_questions header_questions
-returns-then-not-total_right c = sym (ask_yes 1 0 _ (header_fits_lem (goal.at.returns-then-not-total_right c).Else-b-lt-SIZE) ∙ ask_no 2 0 _ (sym c.total_right.ensures ∙ not-true _ c.if-not-total_right.true))
+returns-then-not-total_right c = sym (ask_yes 1 0 _ (header_fits_lem (goal.at.returns-then-not-total_right c).Else-b-lt-SIZE) ∙ ask_no 2 0 _ (sym c.total_right.ensures ∙ c.if-not-total_right.true))
 
 pub returns-then-not-counts_in_limits : goal.returns-then-not-counts_in_limits
 unfolding ask_all checked catalogue_checks catalogue_questions header_questions
-returns-then-not-counts_in_limits c = sym (ask_yes 1 0 _ (header_fits_lem (goal.at.returns-then-not-counts_in_limits c).Else-b-lt-SIZE) ∙ ask_yes 2 0 _ (total_right (goal.at.returns-then-not-counts_in_limits c).Else-not-total_right) ∙ ask_no 3 0 _ (sym c.counts_in_limits.ensures ∙ not-true _ c.if-not-counts_in_limits.true))
+returns-then-not-counts_in_limits c = sym (ask_yes 1 0 _ (header_fits_lem (goal.at.returns-then-not-counts_in_limits c).Else-b-lt-SIZE) ∙ ask_yes 2 0 _ (total_right_lem (goal.at.returns-then-not-counts_in_limits c).Else-not-total_right) ∙ ask_no 3 0 _ (sym c.counts_in_limits.ensures ∙ c.if-not-counts_in_limits.true))
 
 pub returns-then-not-offsets_right : goal.returns-then-not-offsets_right
 unfolding ask_all checked catalogue_checks catalogue_questions header_questions
-returns-then-not-offsets_right c = sym (ask_yes 1 0 _ (header_fits_lem (goal.at.returns-then-not-offsets_right c).Else-b-lt-SIZE) ∙ ask_yes 2 0 _ (total_right (goal.at.returns-then-not-offsets_right c).Else-not-total_right) ∙ ask_yes 3 0 _ (counts_in_limits_lem (goal.at.returns-then-not-offsets_right c).Else-not-counts_in_limits) ∙ ask_no 4 0 _ (sym c.offsets_right.ensures ∙ not-true _ c.if-not-offsets_right.true))
+returns-then-not-offsets_right c = sym (ask_yes 1 0 _ (header_fits_lem (goal.at.returns-then-not-offsets_right c).Else-b-lt-SIZE) ∙ ask_yes 2 0 _ (total_right_lem (goal.at.returns-then-not-offsets_right c).Else-not-total_right) ∙ ask_yes 3 0 _ (counts_in_limits_lem (goal.at.returns-then-not-offsets_right c).Else-not-counts_in_limits) ∙ ask_no 4 0 _ (sym c.offsets_right.ensures ∙ c.if-not-offsets_right.true))
 
 pub check_records-requires : goal.check_records-requires
-check_records-requires c = sections _ (total_right (goal.at.check_records-requires c).Else-not-total_right) (offsets_right_lem c)
+check_records-requires c = sections _ (total_right_lem (goal.at.check_records-requires c).Else-not-total_right) (offsets_right_lem c)
 
 pub returns : goal.returns
 unfolding ask_all checked catalogue_checks catalogue_questions header_questions
-returns c = c.check_records.ensures ∙ sym (ask_yes 1 0 _ (header_fits_lem (goal.at.returns c).Else-b-lt-SIZE) ∙ ask_yes 2 0 _ (total_right (goal.at.returns c).Else-not-total_right) ∙ ask_yes 3 0 _ (counts_in_limits_lem (goal.at.returns c).Else-not-counts_in_limits) ∙ ask_yes 4 0 _ (offsets_right_lem (goal.at.returns c).Else-not-offsets_right))
+returns c = c.check_records.ensures ∙ sym (ask_yes 1 0 _ (header_fits_lem (goal.at.returns c).Else-b-lt-SIZE) ∙ ask_yes 2 0 _ (total_right_lem (goal.at.returns c).Else-not-total_right) ∙ ask_yes 3 0 _ (counts_in_limits_lem (goal.at.returns c).Else-not-counts_in_limits) ∙ ask_yes 4 0 _ (offsets_right_lem (goal.at.returns c).Else-not-offsets_right))

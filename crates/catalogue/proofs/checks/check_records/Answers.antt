@@ -15,14 +15,12 @@ returns-in-Refused c =
 pub returns-in-Refused-roles : goal.returns-in-Refused-roles
 unfolding record_questions
 returns-in-Refused-roles c =
-    let d = (goal.at.returns-in-Refused-roles c).After-check_roles-roles in
-    sym (part_yes concept_questions _ _ accepted (sym d.before.before.before.check-concepts.ensures ∙ ap outcome_of d.before.enum_told.given.1)
-    ∙ part_no role_questions _ _ accepted (sym d.check-roles.ensures ∙ ap outcome_of c.in-Refused-roles.is))
+    sym (part_yes concept_questions _ _ accepted (sym c.check_concepts-concepts.ensures ∙ ap outcome_of c.in-Accepted.is)
+    ∙ part_no role_questions _ _ accepted (sym c.check_roles-roles.ensures ∙ ap outcome_of c.in-Refused-roles.is))
 
 pub returns-in-Accepted-roles : goal.returns-in-Accepted-roles
 unfolding record_questions
 returns-in-Accepted-roles c =
-    let d = (goal.at.returns-in-Accepted-roles c).After-check_roles-roles in
     c.check_axioms.ensures
-    ∙ sym (part_yes concept_questions _ _ accepted (sym d.before.before.before.check-concepts.ensures ∙ ap outcome_of d.before.enum_told.given.1)
-    ∙ part_yes role_questions _ _ accepted (sym d.check-roles.ensures ∙ ap outcome_of c.in-Accepted-roles.is))
+    ∙ sym (part_yes concept_questions _ _ accepted (sym c.check_concepts-concepts.ensures ∙ ap outcome_of c.in-Accepted.is)
+    ∙ part_yes role_questions _ _ accepted (sym c.check_roles-roles.ensures ∙ ap outcome_of c.in-Accepted-roles.is))

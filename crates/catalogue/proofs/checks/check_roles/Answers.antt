@@ -13,13 +13,11 @@ returns-then-inclusion-h c = sym (each_no _ 7 _ c.inclusions-h.ensures c.first_f
 pub returns-then-composition-k : goal.returns-then-composition-k
 unfolding ask_all role_questions
 returns-then-composition-k c =
-    let h = (goal.at.returns-then-composition-k c).Else-inclusion-h in
-    sym (each_yes _ 7 _ h.before.before.inclusions.ensures h.before.first_fault_lem.ensures h.if1.false
+    sym (each_yes _ 7 _ c.inclusions-h.ensures c.first_fault-inclusion.ensures c.if-inclusion-h.false
     ∙ each_no _ 7 _ c.compositions-k.ensures c.first_fault-composition.ensures c.if-composition-k.true)
 
 pub returns : goal.returns
 unfolding ask_all role_questions
 returns c =
-    let h = (goal.at.returns c).Else-inclusion-h in
-    sym (each_yes _ 7 _ h.before.before.inclusions.ensures h.before.first_fault_lem.ensures h.if1.false
+    sym (each_yes _ 7 _ c.inclusions-h.ensures c.first_fault-inclusion.ensures c.if-inclusion-h.false
     ∙ each_yes _ 7 _ c.compositions-k.ensures c.first_fault-composition.ensures c.if-composition-k.false)

@@ -15,7 +15,7 @@ loop-k-init c = (search rules, λ j l. absurd (omega arith))
 
 pub loop-k-preserved : goal.loop-k-preserved
 loop-k-preserved c =
-    (search rules, below_more _ _ c.loop-k.invariant.1 (sym c.passes.ensures ∙ not-false _ c.if-not-passes.false))
+    (search rules, below_more _ _ c.loop-k.invariant.1 (sym c.passes.ensures ∙ c.if-not-passes.false))
 
 pub returns-after-loop-k : goal.returns-after-loop-k
 returns-after-loop-k c =
@@ -32,5 +32,5 @@ returns-then-not-passes c =
     (record {
       within = search rules;
       passed = c.loop-k.invariant.1;
-      fails = λ l. sym c.passes.ensures ∙ not-true _ c.if-not-passes.true;
+      fails = λ l. sym c.passes.ensures ∙ c.if-not-passes.true;
     })

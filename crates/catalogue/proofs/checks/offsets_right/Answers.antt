@@ -9,50 +9,42 @@ use Rattle.catalogue.proofs.checks.offsets_right.Goals as goal
 pub overflow_mul-result : goal.overflow_mul-result
 unfolding concepts
 overflow_mul-result c =
-    let s = (goal.at.overflow_mul-result c).After-shared_slice_known-1 in
-    omega (arith, word_below s.before.args.b.now s.shared-slice-known.given 2)
+    omega (arith, word_below c.args.b.now c.type_inv.b 2)
 
 pub overflow_add-result : goal.overflow_add-result
 unfolding concepts concepts_at
 overflow_add-result c =
-    let s = (goal.at.overflow_add-result c).After-shared_slice_known-1 in
-    omega (arith, word_below s.before.args.b.now s.shared-slice-known.given 2, word_below s.before.args.b.now s.shared-slice-known.given 12)
+    omega (arith, word_below c.args.b.now c.type_inv.b 2, word_below c.args.b.now c.type_inv.b 12)
 
 pub overflow_mul-result-2 : goal.overflow_mul-result-2
 unfolding inclusions
 overflow_mul-result-2 c =
-    let s = (goal.at.overflow_mul-result-2 c).After-shared_slice_known-1 in
-    omega (arith, word_below s.before.args.b.now s.shared-slice-known.given 6)
+    omega (arith, word_below c.args.b.now c.type_inv.b 6)
 
 pub overflow_add-result-2 : goal.overflow_add-result-2
 unfolding inclusions inclusions_at
 overflow_add-result-2 c =
-    let s = (goal.at.overflow_add-result-2 c).After-shared_slice_known-1 in
-    omega (arith, word_below s.before.args.b.now s.shared-slice-known.given 6, word_below s.before.args.b.now s.shared-slice-known.given 14)
+    omega (arith, word_below c.args.b.now c.type_inv.b 6, word_below c.args.b.now c.type_inv.b 14)
 
 pub overflow_mul-result-3 : goal.overflow_mul-result-3
 unfolding compositions
 overflow_mul-result-3 c =
-    let s = (goal.at.overflow_mul-result-3 c).After-shared_slice_known-1 in
-    omega (arith, word_below s.before.args.b.now s.shared-slice-known.given 8)
+    omega (arith, word_below c.args.b.now c.type_inv.b 8)
 
 pub overflow_add-result-3 : goal.overflow_add-result-3
 unfolding compositions compositions_at
 overflow_add-result-3 c =
-    let s = (goal.at.overflow_add-result-3 c).After-shared_slice_known-1 in
-    omega (arith, word_below s.before.args.b.now s.shared-slice-known.given 8, word_below s.before.args.b.now s.shared-slice-known.given 16)
+    omega (arith, word_below c.args.b.now c.type_inv.b 8, word_below c.args.b.now c.type_inv.b 16)
 
 pub overflow_mul-result-4 : goal.overflow_mul-result-4
 unfolding axioms
 overflow_mul-result-4 c =
-    let s = (goal.at.overflow_mul-result-4 c).After-shared_slice_known-1 in
-    omega (arith, word_below s.before.args.b.now s.shared-slice-known.given 10)
+    omega (arith, word_below c.args.b.now c.type_inv.b 10)
 
 pub overflow_add-result-4 : goal.overflow_add-result-4
 unfolding axioms axioms_at
 overflow_add-result-4 c =
-    let s = (goal.at.overflow_add-result-4 c).After-shared_slice_known-1 in
-    omega (arith, word_below s.before.args.b.now s.shared-slice-known.given 10, word_below s.before.args.b.now s.shared-slice-known.given 18)
+    omega (arith, word_below c.args.b.now c.type_inv.b 10, word_below c.args.b.now c.type_inv.b 18)
 
 pub returns : goal.returns
 unfolding offsets_right

@@ -1,0 +1,16 @@
+-- `roles::reflexive` meets its contract. The loop's invariant: the roles below `role` are marked with themselves.
+use Prim.Native.Nat.{ℕ, ◌+◌, ◌-◌, ◌≤◌, ◌<◌}
+use native.Mathlib.Omega.{arith}
+use native.Mathlib.Decide.{dec_lt}
+use borrow.Author.Rules.{rules}
+use mathlib.Core.Path.{◌≡◌, sym, ◌∙◌}
+use mathlib.Core.Logic.{◌⊎◌, inl, inr, ⊎_elim}
+use Rattle.structure.specs.Square.{Sized, MarksExactly}
+use Rattle.structure.proofs.Squares.{blank_sized, blank_exact, put_sized, put_exact, exactly_same}
+use Rattle.structure.proofs.roles.reflexive.Given as goal
+
+abbrev pub invariant-loop-role : goal.invariant-loop-role
+invariant-loop-role l = (l.role ≤ 16) × Sized l.square × MarksExactly (λ x y. (x ≡ y) × (x < l.role)) l.square
+
+abbrev pub decreases-loop-role : goal.decreases-loop-role
+decreases-loop-role l = 16 - l.role

@@ -1,0 +1,17 @@
+-- `roles::through` meets its contract. The loop's invariant: the rows below r have role k between.
+use Prim.Native.Nat.{ℕ, ◌-◌, ◌≤◌, ◌<◌}
+use native.Mathlib.Omega.{arith}
+use borrow.Author.Rules.{rules}
+use mathlib.Core.Path.{◌≡◌, refl, ◌∙◌}
+use mathlib.Core.Bool.{false}
+use mathlib.Core.List.{[]}
+use lib.ListN.{length, get_or, length-set}
+use Rattle.structure.specs.Square.{mark, mark_through}
+use Rattle.structure.proofs.Squares.{stored_more}
+use Rattle.structure.proofs.roles.through.Given as goal
+
+abbrev pub invariant-loop-r : goal.invariant-loop-r
+invariant-loop-r l = (l.r ≤ 16) × (length l.next ≡ 16) × ((x : ℕ) → x < l.r → (s : ℕ) → s < 16 → mark l.next x s ≡ mark_through l.k l.square x s)
+
+abbrev pub decreases-loop-r : goal.decreases-loop-r
+decreases-loop-r l = 16 - l.r
