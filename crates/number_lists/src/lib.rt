@@ -1,4 +1,6 @@
 // Numbers entered in a list, two bytes each, low byte first, rising; entries past the count stay.
+#![tactic(auto)]
+
 ghost use Rattle.std.specs.Prelude.{◌+◌, ◌*◌, ◌≤◌, ◌<◌, length};
 ghost use Rattle.rows.specs.Bits.{bit};
 ghost use Rattle.store.specs.Written.{rising};

@@ -34,9 +34,9 @@ module _ (n : ℕ) where
   unfolding atomic_concepts
   long = length-append (atomic_header n) (replicate (6 * n) 0) ∙ ap₂ ◌+◌ (header_long n) (length-replicate (6 * n) 0)
 
-  total_right : total (atomic_concepts n) ≡ length (atomic_concepts n)
+  total_right_lem : total (atomic_concepts n) ≡ length (atomic_concepts n)
   unfolding atomic_concepts atomic_header total word bytes_of
-  total_right = let own : total (atomic_concepts n) ≡ 20 + 6 * n = omega arith in own ∙ sym long
+  total_right_lem = let own : total (atomic_concepts n) ≡ 20 + 6 * n = omega arith in own ∙ sym long
 
   -- Every number past the header is zero.
   zero_word : (i j : ℕ) → j ≡ 20 + i → i + 1 < 6 * n → word (atomic_concepts n) j ≡ 0
@@ -75,11 +75,11 @@ module _ (n : ℕ) where
       }
 
   pub atomic_accepted : 1 ≤ n → n ≤ 512 → checked (atomic_concepts n) ≡ accepted
-  atomic_accepted some few = well_formed_accepted (atomic_well_formed some few) total_right
+  atomic_accepted some few = well_formed_accepted (atomic_well_formed some few) total_right_lem
 
   pub atomic_too_many : 512 < n → checked (atomic_concepts n) ≡ refused 3 0
   unfolding ask_all checked catalogue_checks catalogue_questions header_questions header_fits total_right counts_in_limits
   atomic_too_many many =
       ask_yes 1 0 _ (le-leb 20 (length (atomic_concepts n)) (omega (arith, long)))
-      ∙ ask_yes 2 0 _ (eq-eqb _ _ total_right)
+      ∙ ask_yes 2 0 _ (eq-eqb _ _ total_right_lem)
       ∙ ask_no 3 0 _ (rw (le-leb 1 (concepts (atomic_concepts n)) (omega (arith, atomic_count)), lt-leb (concepts (atomic_concepts n)) 512 (omega (arith, atomic_count))))
