@@ -1,10 +1,14 @@
 // The body of the listing program (document 01, Examples), for the programs that run it.
+#![tactic(auto)]
+
 ghost use Rattle.std.specs.Prelude.{◌≡◌, ◌≤◌, length};
+ghost use Rattle.std.specs.Io.{ReadsAtMost};
 ghost use Rattle.text.specs.Text.{Appended};
 ghost use Rattle.listings.specs.Program.{program_text, Ran};
 
 use classification::{Classified, classify};
-use libc::{STDERR_FILENO, STDOUT_FILENO};
+use std::io;
+use std::io::{ErrorKind, Read};
 use text::{listing_text, refusal_text};
 
 // What a run of the program came to: a text of so many bytes, or an input that could not be read.
@@ -34,37 +38,52 @@ fn text_buffer() -> [u8; 2097152]
 }
 
 // Writes the program's text of an input, or says on standard error that it could not.
-fn list(input: &[u8]) -> Listing
+fn list(rt: &(impl Print + Eprint), input: &[u8]) -> Listing
     requires { length input.now ≤ 65536 }
     ensures { Ran result }
 {
-    let mut store = io::large_buffer();
-    let mut work = io::large_buffer();
+    let mut store = [0u8; 65536];
+    let mut work = [0u8; 65536];
     let mut out = text_buffer();
     let end = program_text(input, &mut store, &mut work, &mut out);
-    if !io::write_all(STDOUT_FILENO, &out[..end]) {
-        io::write_all(STDERR_FILENO, b"listing: the output could not be written\n");
+    if rt.write_all(&out[..end]).is_err() {
+        let _ = rt.eprintln("listing: the output could not be written");
     }
     Listing::Text(end)
 }
 
-// Whether an input has ended: a read then gives nothing, and one that fails gives -1.
-fn input_ended(file: i32) -> bool {
-    let mut more = [0u8; 1];
-    libc::read(file, &mut more) == 0
-}
-
-// Lists the catalogue that a descriptor gives, of which it reads 65,536 bytes at most: a longer input is refused by these alone.
-pub fn run(file: i32) -> Listing
-    ensures { Ran result }
+// Reads to the end of the input, or until the buffer is full, and says how many bytes it read. A read that a signal interrupts is tried again.
+fn read_full<R: Read>(input: &mut R, buffer: &mut [u8]) -> io::Result<usize>
+    ensures { ReadsAtMost result buffer.new }
 {
-    let mut input = io::large_buffer();
-    let n = io::read_full(file, &mut input);
-    if n < 65536 {
-        if !input_ended(file) {
-            io::write_all(STDERR_FILENO, b"listing: the input could not be read\n");
-            return Listing::Unread;
+    let mut done = 0;
+    for _ in 0..u64::MAX {
+        if done == buffer.len() {
+            break;
+        }
+        match input.read(&mut buffer[done..]) {
+            Ok(0) => break,
+            Ok(n) => done += n,
+            Err(e) => {
+                if e.kind() != ErrorKind::Interrupted {
+                    return Err(e);
+                }
+            }
         }
     }
-    list(&input[..n])
+    Ok(done)
+}
+
+// Lists the catalogue that a reader gives, of which it reads 65,536 bytes at most: a longer input is refused by these alone.
+pub fn run<R: Read>(rt: &(impl Print + Eprint), file: &mut R) -> Listing
+    ensures { Ran result }
+{
+    let mut input = [0u8; 65536];
+    match read_full(file, &mut input) {
+        Ok(n) => list(rt, &input[..n]),
+        Err(_) => {
+            let _ = rt.eprintln("listing: the input could not be read");
+            Listing::Unread
+        }
+    }
 }
