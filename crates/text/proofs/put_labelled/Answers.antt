@@ -3,7 +3,6 @@ use native.Mathlib.Omega.{arith}
 use lib.ListN.{length-append}
 use Rattle.text.specs.Text.{decimal}
 use Rattle.text.proofs.Appending.{appended_more}
-use borrow.Author.Rules.{rules}
 use Rattle.text.proofs.put_labelled.Goals as goal
 
 pub put_text-place-requires : goal.put_text-place-requires

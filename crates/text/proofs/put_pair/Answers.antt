@@ -5,7 +5,6 @@ use lib.ListN.{length}
 use Rattle.text.specs.Text.{pair_line, newline}
 use Rattle.text.proofs.Appending.{appended_more}
 use Rattle.text.proofs.Decimals.{length-pair_line}
-use borrow.Author.Rules.{rules}
 use Rattle.text.proofs.put_pair.Goals as goal
 
 pub put_decimal-second-requires : goal.put_decimal-second-requires

@@ -3,7 +3,6 @@ use native.Mathlib.Omega.{arith}
 use Rattle.text.specs.Text.{refusal, newline}
 use Rattle.text.proofs.Appending.{appended_more}
 use Rattle.text.proofs.Decimals.{length-decimal-word}
-use borrow.Author.Rules.{rules}
 use Rattle.text.proofs.refusal_text.Goals as goal
 
 pub put_labelled-end-requires : goal.put_labelled-end-requires

@@ -5,7 +5,6 @@ use lib.ListN.{length}
 use Rattle.text.specs.Text.{summary, newline}
 use Rattle.text.proofs.Appending.{appended_more}
 use Rattle.text.proofs.Decimals.{length-decimal-word}
-use borrow.Author.Rules.{rules}
 use Rattle.text.proofs.summary_text.Goals as goal
 
 pub put_labelled-concepts-requires : goal.put_labelled-concepts-requires
