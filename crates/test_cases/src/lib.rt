@@ -11,26 +11,19 @@ ghost use Rattle.catalogue.specs.Words as words;
 use checksum::fnv1a;
 pub use sequences::{say_digits, say_reply};
 use std::io;
-use std::io::{ErrorKind, Read};
+use std::io::Read;
 
-// Reads to the end of the input, or until the buffer is full, and says how many bytes it read. A read that a signal interrupts is tried again.
+// Reads to the end of the input, or until the buffer is full, and says how many bytes it read.
 pub fn read_full<R: Read>(input: &mut R, buffer: &mut [u8]) -> io::Result<usize>
     ensures { ReadsAtMost result buffer.new }
 {
     let mut done = 0;
-    for _ in 0..u64::MAX {
-        if done == buffer.len() {
+    while done < buffer.len() {
+        let n = input.read(&mut buffer[done..])?;
+        if n == 0 {
             break;
         }
-        match input.read(&mut buffer[done..]) {
-            Ok(0) => break,
-            Ok(n) => done += n,
-            Err(e) => {
-                if e.kind() != ErrorKind::Interrupted {
-                    return Err(e);
-                }
-            }
-        }
+        done += n;
     }
     Ok(done)
 }
