@@ -1,1 +1,3 @@
+#![tactic(auto)]
+
 // Laws of Booleans. No code.

@@ -1,4 +1,6 @@
 // Buffers of zeros, as long as the largest catalogue asks: 512 concepts, 16 roles, rows of 64 bytes.
+#![tactic(auto)]
+
 ghost use Rattle.layout.specs.Limits.{max_width, max_own, max_table, triples_length};
 ghost use Rattle.indexing.specs.Index.{max_index};
 ghost use Rattle.predecessors.specs.Mirror.{max_predecessors};

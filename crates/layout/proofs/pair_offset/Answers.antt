@@ -1,7 +1,6 @@
 -- `pair_offset` meets its contract.
 use native.Mathlib.Omega.{arith}
 use Rattle.layout.proofs.Offsets.{offset_limit}
-use borrow.Author.Rules.{rules}
 use Rattle.layout.proofs.Sizes.{shape_concepts, shape_offset}
 use Rattle.layout.proofs.pair_offset.Goals as goal
 

@@ -1,5 +1,4 @@
 -- `layout::used` meets its contract.
-use borrow.Author.Rules.{rules}
 use Rattle.layout.specs.Parts.{used}
 use Rattle.layout.proofs.used.Goals as goal
 

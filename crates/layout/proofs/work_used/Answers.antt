@@ -1,5 +1,4 @@
 -- `layout::work_used` meets its contract.
-use borrow.Author.Rules.{rules}
 use Rattle.layout.specs.Parts.{work_used}
 use Rattle.layout.proofs.work_used.Goals as goal
 

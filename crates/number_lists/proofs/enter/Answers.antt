@@ -2,7 +2,6 @@
 use mathlib.Core.Path.{refl}
 use Rattle.booleans.proofs.Booleans.{not-both}
 use Rattle.store.specs.Written.{set_word}
-use borrow.Author.Rules.{rules}
 use Rattle.number_lists.proofs.enter.Goals as goal
 
 pub returns-then-on : goal.returns-then-on

@@ -1,10 +1,7 @@
 -- `list_marked` meets its contract: at each turn the marked numbers passed stand in front.
-use Prim.Native.Nat.{◌-◌}
 use native.Mathlib.Omega.{arith}
-use mathlib.Core.Path.{◌≡◌, refl, ◌∙◌}
-use lib.ListN.{length}
-use Rattle.number_lists.proofs.Filling.{filled_most, Walked, walked_none, walked_more, walked_all}
-use borrow.Author.Rules.{rules}
+use mathlib.Core.Path.{refl, ◌∙◌}
+use Rattle.number_lists.proofs.Filling.{filled_most, walked_none, walked_more, walked_all}
 use Rattle.number_lists.proofs.list_marked.Goals as goal
 
 pub loop-c-init : goal.loop-c-init

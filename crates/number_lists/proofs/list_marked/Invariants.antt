@@ -1,10 +1,8 @@
 -- `list_marked` meets its contract: at each turn the marked numbers passed stand in front.
 use Prim.Native.Nat.{◌-◌}
-use native.Mathlib.Omega.{arith}
-use mathlib.Core.Path.{◌≡◌, refl, ◌∙◌}
+use mathlib.Core.Path.{◌≡◌}
 use lib.ListN.{length}
-use Rattle.number_lists.proofs.Filling.{filled_most, Walked, walked_none, walked_more, walked_all}
-use borrow.Author.Rules.{rules}
+use Rattle.number_lists.proofs.Filling.{Walked}
 use Rattle.number_lists.proofs.list_marked.Given as goal
 
 abbrev pub invariant-loop-c : goal.invariant-loop-c

@@ -1,9 +1,9 @@
 -- `reader::copy_numbers` meets its contract. The loop's invariant: the first k numbers are copied.
-use Prim.Native.Nat.{ℕ, suc, ◌+◌, ◌*◌, ◌-◌, ◌≤◌, ◌<◌}
+use Prim.Native.Nat.{ℕ, suc, ◌+◌, ◌*◌, ◌<◌}
 use native.Mathlib.Omega.{arith}
 use borrow.Author.Rules.{rules}
 use mathlib.Core.Path.{◌≡◌, refl, ap, ◌∙◌}
-use lib.ListN.{length, get_or, drop}
+use lib.ListN.{get_or, drop}
 use lib.Seq.{paste-zero}
 use Rattle.reader.specs.Copied.{copied}
 use Rattle.reader.proofs.Copying.{word_fits, copied_more}

@@ -1,16 +1,9 @@
 -- `rows::any` meets its contract: where none is found every byte passed is 0, and where one is found a bit is set.
-use mathlib.Core.Path.{◌≡◌, refl, sym}
-use mathlib.Core.Bool.{Bool, true, false, ◌||◌, not, true≢false}
-use Rattle.booleans.proofs.Booleans.{neither}
+use mathlib.Core.Path.{◌≡◌}
+use mathlib.Core.Bool.{true, false}
 use Rattle.rows.specs.Bits.{any_bit}
-use Rattle.rows.proofs.Lowest.{any_nonzero, any_zero}
-use borrow.Author.Rules.{rules}
-use borrow.Author.Count.{below_more}
-use borrow.Author.Tests.{eqb-true, eqb-false, not-true, not-false}
 use Prim.Native.Nat.{ℕ, ◌-◌, ◌≤◌, ◌<◌}
-use native.Mathlib.Omega.{arith}
 use lib.ListN.{length, get_or}
-use lib.Dec.{eqb}
 use Rattle.rows.proofs.any.Given as goal
 
 abbrev pub invariant-loop-i : goal.invariant-loop-i

@@ -6,7 +6,6 @@ use lib.ListN.{get_or, set}
 use lib.Bits.{bit_and}
 use Rattle.rows.specs.Bits.{clear_bit}
 use Rattle.rows.proofs.Bits.{shifted_one}
-use borrow.Author.Rules.{rules}
 use Rattle.rows.proofs.clear.Goals as goal
 
 pub returns : goal.returns

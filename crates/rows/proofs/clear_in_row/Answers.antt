@@ -2,7 +2,6 @@
 use Prim.Native.Nat.{◌+◌, ◌*◌}
 use native.Mathlib.Omega.{arith}
 use Rattle.rows.proofs.Bits.{clear_part}
-use borrow.Author.Rules.{rules}
 use Rattle.rows.proofs.clear_in_row.Goals as goal
 
 pub returns : goal.returns

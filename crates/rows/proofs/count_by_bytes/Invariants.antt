@@ -1,13 +1,8 @@
 -- `rows::count_by_bytes` meets its contract: what is counted below the given byte and the total make the count of the bytes passed.
-use mathlib.Core.Path.{◌≡◌, sym, ap, ◌∙◌}
-use borrow.Author.Rules.{rules}
-use Prim.Native.Nat.{ℕ, ◌+◌, ◌-◌, ◌*◌, ◌≤◌}
-use native.Mathlib.Nat.{add-zero, add_assoc}
-use native.Mathlib.Omega.{arith}
-use lib.ListN.{length, get_or}
-use lib.Count.{ones, ones-le}
-use Rattle.rows.specs.Bits.{bit, count_below, count_bits}
-use Rattle.rows.proofs.Counting.{count_byte, count_le}
+use mathlib.Core.Path.{◌≡◌}
+use Prim.Native.Nat.{◌+◌, ◌-◌, ◌*◌, ◌≤◌}
+use lib.ListN.{length}
+use Rattle.rows.specs.Bits.{bit, count_below}
 use Rattle.rows.proofs.count_by_bytes.Given as goal
 
 abbrev pub invariant-loop-k : goal.invariant-loop-k

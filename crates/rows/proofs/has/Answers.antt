@@ -3,7 +3,6 @@ use mathlib.Core.Path.{refl, sym}
 use native.Mathlib.Omega.{arith}
 use Rattle.rows.specs.Bits.{bit, byte_bit}
 use Rattle.rows.proofs.Bits.{bit_past}
-use borrow.Author.Rules.{rules}
 use Rattle.rows.proofs.has.Goals as goal
 
 pub returns-then-at-row : goal.returns-then-at-row

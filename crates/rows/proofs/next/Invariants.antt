@@ -1,14 +1,8 @@
 -- `rows::next` meets its contract: a search from the given bit on goes on from the word reached.
-use mathlib.Core.Path.{◌≡◌, refl, sym, ap, ◌∙◌}
-use borrow.Author.Rules.{rules}
-use Prim.Native.Nat.{ℕ, ◌+◌, ◌-◌, ◌*◌, ◌/◌, ◌%◌, ◌^◌, ◌<◌}
-use native.Mathlib.Omega.{arith}
+use mathlib.Core.Path.{◌≡◌}
+use Prim.Native.Nat.{◌-◌, ◌*◌, ◌/◌, ◌^◌, ◌<◌}
 use lib.ListN.{length}
-use lib.Count.{count_trailing_zeros}
-use lib.Dec.{lit<}
 use Rattle.rows.specs.Next.{next_bit}
-use Rattle.rows.specs.declared.Found.TheVariants.{At}
-use Rattle.rows.proofs.Lowest.{place_fits, zeros_fit, next_in_number, next_skip, number_clear}
 use Rattle.rows.proofs.next.Given as goal
 
 abbrev pub invariant-loop-i : goal.invariant-loop-i

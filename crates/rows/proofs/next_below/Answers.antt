@@ -2,7 +2,6 @@
 use native.Mathlib.Omega.{arith}
 use mathlib.Core.Path.{sym, ◌∙◌}
 use Rattle.rows.proofs.Lowest.{NextAt, at_next, none_next}
-use borrow.Author.Rules.{rules}
 use Rattle.rows.proofs.next_below.Goals as goal
 
 pub returns-then-i-n : goal.returns-then-i-n

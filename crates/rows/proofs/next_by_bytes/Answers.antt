@@ -1,9 +1,8 @@
 -- `rows::next_by_bytes` meets its contract: a search from the given bit on goes on from the bit reached.
 use mathlib.Core.Path.{◌≡◌, refl, sym, ap, ◌∙◌}
-use borrow.Author.Rules.{rules}
-use Prim.Native.Nat.{ℕ, ◌+◌, ◌-◌, ◌*◌, ◌/◌, ◌%◌, ◌^◌}
+use Prim.Native.Nat.{ℕ, ◌+◌, ◌*◌, ◌/◌, ◌%◌, ◌^◌}
 use native.Mathlib.Omega.{arith}
-use lib.ListN.{length, get_or}
+use lib.ListN.{get_or}
 use lib.Count.{count_trailing_zeros}
 use lib.Dec.{lit<}
 use Rattle.rows.specs.Next.{next_bit}

@@ -6,7 +6,6 @@ use lib.ListN.{get_or, set}
 use lib.Bits.{bit_or}
 use Rattle.rows.specs.Bits.{set_bit}
 use Rattle.rows.proofs.Bits.{shifted_one}
-use borrow.Author.Rules.{rules}
 use Rattle.rows.proofs.put.Goals as goal
 
 pub returns : goal.returns

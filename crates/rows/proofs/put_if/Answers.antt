@@ -1,5 +1,4 @@
 -- `put_if` meets its contract.
-use borrow.Author.Rules.{rules}
 use mathlib.Core.Path.{sym, ap, ◌∙◌}
 use mathlib.Core.Bool.{Bool}
 use Rattle.rows.specs.Bits.{set_if}

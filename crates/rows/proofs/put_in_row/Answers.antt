@@ -2,7 +2,6 @@
 use Prim.Native.Nat.{◌+◌, ◌*◌}
 use native.Mathlib.Omega.{arith}
 use Rattle.rows.proofs.Bits.{set_part}
-use borrow.Author.Rules.{rules}
 use Rattle.rows.proofs.put_in_row.Goals as goal
 
 pub returns : goal.returns

@@ -1,13 +1,7 @@
 -- `rows::word` meets its contract: each turn joins one byte on.
-use mathlib.Core.Path.{◌≡◌, refl, sym, ap, ◌∙◌}
-use borrow.Author.Rules.{rules}
-use Prim.Native.Nat.{ℕ, ◌+◌, ◌-◌, ◌*◌, ◌%◌, ◌^◌, ◌≤◌}
-use native.Mathlib.Numerals.{add-one}
-use native.Mathlib.Omega.{arith}
-use lib.ListN.{get_or}
-use lib.Bits.{bit_or}
+use mathlib.Core.Path.{◌≡◌}
+use Prim.Native.Nat.{◌-◌, ◌≤◌}
 use Rattle.rows.specs.Words.{number_at}
-use Rattle.rows.proofs.Words.{number_more}
 use Rattle.rows.proofs.word.Given as goal
 
 abbrev pub invariant-loop-k : goal.invariant-loop-k

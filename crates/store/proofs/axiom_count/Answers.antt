@@ -3,7 +3,6 @@ use Prim.Native.Nat.{◌*◌}
 use native.Mathlib.Omega.{arith}
 use mathlib.Core.Path.{ap, ◌∙◌}
 use lib.ListN.{length-take}
-use borrow.Author.Rules.{rules}
 use Rattle.rows.specs.Bits.{count_bits}
 use Rattle.layout.proofs.Sizes.{shape_sizes}
 use Rattle.layout.proofs.StoreRows.{rows_taken, taken_long}

@@ -2,7 +2,6 @@
 use Prim.Native.Nat.{ℕ}
 use mathlib.Core.Path.{ap}
 use lib.Dec.{leb}
-use borrow.Author.Rules.{rules}
 use Rattle.store.specs.Checks.{axioms_in_limit}
 use Rattle.store.proofs.axioms_in_limit.Goals as goal
 

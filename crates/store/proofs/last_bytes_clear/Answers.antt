@@ -1,7 +1,7 @@
 -- `store::last_bytes_clear` meets its contract: no bit from bit i on is set in a row that was passed.
-use Prim.Native.Nat.{ℕ, ◌+◌, ◌-◌, ◌*◌, ◌/◌, ◌≤◌, ◌<◌}
+use Prim.Native.Nat.{◌+◌, ◌*◌, ◌/◌}
 use native.Mathlib.Omega.{arith}
-use mathlib.Core.Path.{◌≡◌, sym, ap}
+use mathlib.Core.Path.{sym, ap}
 use mathlib.Core.Bool.{false, not}
 use borrow.Author.Rules.{rules}
 use borrow.Author.Count.{below_none, below_more}

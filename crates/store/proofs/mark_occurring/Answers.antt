@@ -4,7 +4,6 @@ use native.Mathlib.Omega.{arith}
 use mathlib.Core.Path.{◌≡◌, sym, ap, subst, ◌∙◌}
 use mathlib.Core.List.{List}
 use lib.ListN.{length}
-use borrow.Author.Rules.{rules}
 use Rattle.rules.specs.Occurrence.{occurs}
 use Rattle.layout.specs.Layout.{shape_of, table}
 use Rattle.occurrence.specs.Marking.{InTable}

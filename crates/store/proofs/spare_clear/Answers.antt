@@ -4,7 +4,6 @@ use native.Mathlib.Omega.{arith}
 use mathlib.Core.Path.{◌≡◌, sym, ap, ap₂, subst₂, ◌∙◌}
 use mathlib.Core.Bool.{not}
 use lib.ListN.{length}
-use borrow.Author.Rules.{rules}
 use Rattle.catalogue.specs.Header.{concepts}
 use Rattle.rows.specs.Bits.{some_below}
 use Rattle.layout.specs.Parts.{width, set_from, spare_clear}

@@ -2,7 +2,6 @@
 use mathlib.Core.Path.{ap}
 use Prim.Native.Nat.{ℕ}
 use lib.Dec.{leb}
-use borrow.Author.Rules.{rules}
 use Rattle.store.specs.Checks.{work_fits}
 use Rattle.store.proofs.work_fits.Goals as goal
 

@@ -1,6 +1,5 @@
 -- `check` puts questions 1 to 4 in order, and then 5 to 9: at each return the ones before it are answered yes.
-use borrow.Author.Rules.{rules}
-use borrow.Author.Tests.{le-leb, lt-leb, not-true, not-false}
+use borrow.Author.Tests.{le-leb, lt-leb}
 use mathlib.Core.Path.{◌≡◌, sym, ◌∙◌}
 use mathlib.Core.Bool.{true}
 use Rattle.catalogue.specs.Questions.{ask_all}

@@ -1,5 +1,4 @@
 -- `check_axioms` puts 8 and 9 in order: at each return the ones before it are answered yes.
-use borrow.Author.Rules.{rules}
 use mathlib.Core.Path.{sym, ◌∙◌}
 use Rattle.catalogue.specs.Questions.{ask_all}
 use Rattle.catalogue.specs.Checks.{axiom_questions}

@@ -1,5 +1,4 @@
 -- `check_concepts` puts 5 and 6 in order: at each return the ones before it are answered yes.
-use borrow.Author.Rules.{rules}
 use mathlib.Core.Path.{sym, ◌∙◌}
 use Rattle.catalogue.specs.Questions.{ask_all}
 use Rattle.catalogue.specs.Checks.{concept_questions}

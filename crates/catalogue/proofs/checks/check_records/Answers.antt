@@ -1,5 +1,4 @@
 -- `check_records` asks the three parts of the list one after the other.
-use borrow.Author.Rules.{rules}
 use mathlib.Core.Path.{sym, ap, ◌∙◌}
 use Rattle.catalogue.specs.Outcome.{accepted}
 use Rattle.catalogue.specs.Verdicts.{outcome_of}

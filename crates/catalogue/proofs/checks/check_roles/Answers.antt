@@ -1,5 +1,4 @@
 -- `check_roles` puts 7 to the inclusions, and then to the compositions.
-use borrow.Author.Rules.{rules}
 use mathlib.Core.Path.{sym, ◌∙◌}
 use Rattle.catalogue.specs.Questions.{ask_all}
 use Rattle.catalogue.specs.Checks.{role_questions}

@@ -1,5 +1,4 @@
 -- `composition_right` is question 7 of one composition.
-use borrow.Author.Rules.{rules}
 use Rattle.catalogue.specs.Checks.{composition_right}
 use Rattle.catalogue.proofs.checks.composition_right.Goals as goal
 

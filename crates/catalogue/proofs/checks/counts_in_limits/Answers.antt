@@ -1,5 +1,4 @@
 -- `counts_in_limits` is question 3.
-use borrow.Author.Rules.{rules}
 use Rattle.catalogue.specs.Checks.{counts_in_limits}
 use Rattle.catalogue.proofs.checks.counts_in_limits.Goals as goal
 

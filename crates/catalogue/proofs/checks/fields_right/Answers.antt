@@ -1,5 +1,4 @@
 -- `fields_right` is question 6 of one concept: a case for each kind.
-use borrow.Author.Rules.{rules}
 use native.Mathlib.Omega.{arith}
 use mathlib.Core.Path.{sym, ◌∙◌}
 use Rattle.catalogue.proofs.Tests.{fields_simple, fields_conjunction, fields_existential, fields_other}

@@ -1,5 +1,4 @@
 -- `inclusion_right` is question 7 of one inclusion.
-use borrow.Author.Rules.{rules}
 use Rattle.catalogue.specs.Checks.{inclusion_right}
 use Rattle.catalogue.proofs.checks.inclusion_right.Goals as goal
 

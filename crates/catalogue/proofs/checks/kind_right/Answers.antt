@@ -1,5 +1,4 @@
 -- `kind_right` is question 5 of one concept.
-use borrow.Author.Rules.{rules}
 use Rattle.catalogue.specs.Checks.{kind_right}
 use Rattle.catalogue.proofs.checks.kind_right.Goals as goal
 

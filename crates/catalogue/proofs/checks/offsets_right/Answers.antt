@@ -1,5 +1,4 @@
 -- `offsets_right` is question 4: numbers of sixteen bits, so that no sum wraps.
-use borrow.Author.Rules.{rules}
 use native.Mathlib.Omega.{arith}
 use Rattle.catalogue.specs.Header.{concepts, inclusions, compositions, axioms, concepts_at, inclusions_at, compositions_at, axioms_at}
 use Rattle.catalogue.specs.Checks.{offsets_right}

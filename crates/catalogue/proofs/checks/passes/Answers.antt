@@ -1,5 +1,4 @@
 -- `passes` picks the test of a question, whose record lies within its section.
-use borrow.Author.Rules.{rules}
 use Prim.Native.Nat.{◌<◌}
 use native.Mathlib.Omega.{arith}
 use mathlib.Core.Path.{◌∙◌}

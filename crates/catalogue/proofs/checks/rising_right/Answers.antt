@@ -1,5 +1,4 @@
 -- `rising_right` is question 9 of one axiom.
-use borrow.Author.Rules.{rules}
 use native.Mathlib.Omega.{arith}
 use mathlib.Core.Path.{sym}
 use Rattle.catalogue.proofs.Tests.{rising-first, rising_after}

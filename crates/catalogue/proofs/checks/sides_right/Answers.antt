@@ -1,5 +1,4 @@
 -- `sides_right` is question 8 of one axiom.
-use borrow.Author.Rules.{rules}
 use Rattle.catalogue.specs.Checks.{sides_right}
 use Rattle.catalogue.proofs.checks.sides_right.Goals as goal
 

@@ -1,5 +1,4 @@
 -- `total_right` is question 2.
-use borrow.Author.Rules.{rules}
 use Rattle.catalogue.specs.Checks.{total_right}
 use Rattle.catalogue.proofs.checks.total_right.Goals as goal
 

@@ -1,5 +1,4 @@
 -- `axioms` reads its field of the header.
-use borrow.Author.Rules.{rules}
 use Rattle.catalogue.specs.Header.{axioms}
 use Rattle.catalogue.proofs.header.axioms.Goals as goal
 

@@ -1,5 +1,4 @@
 -- `axioms_at` reads its field of the header.
-use borrow.Author.Rules.{rules}
 use Rattle.catalogue.specs.Header.{axioms_at}
 use Rattle.catalogue.proofs.header.axioms_at.Goals as goal
 

@@ -1,5 +1,4 @@
 -- `compositions` reads its field of the header.
-use borrow.Author.Rules.{rules}
 use Rattle.catalogue.specs.Header.{compositions}
 use Rattle.catalogue.proofs.header.compositions.Goals as goal
 

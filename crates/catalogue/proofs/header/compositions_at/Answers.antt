@@ -1,5 +1,4 @@
 -- `compositions_at` reads its field of the header.
-use borrow.Author.Rules.{rules}
 use Rattle.catalogue.specs.Header.{compositions_at}
 use Rattle.catalogue.proofs.header.compositions_at.Goals as goal
 

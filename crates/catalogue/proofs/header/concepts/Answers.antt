@@ -1,5 +1,4 @@
 -- `concepts` reads its field of the header.
-use borrow.Author.Rules.{rules}
 use Rattle.catalogue.specs.Header.{concepts}
 use Rattle.catalogue.proofs.header.concepts.Goals as goal
 

@@ -1,5 +1,4 @@
 -- `concepts_at` reads its field of the header.
-use borrow.Author.Rules.{rules}
 use Rattle.catalogue.specs.Header.{concepts_at}
 use Rattle.catalogue.proofs.header.concepts_at.Goals as goal
 

@@ -1,5 +1,4 @@
 -- `inclusions` reads its field of the header.
-use borrow.Author.Rules.{rules}
 use Rattle.catalogue.specs.Header.{inclusions}
 use Rattle.catalogue.proofs.header.inclusions.Goals as goal
 

@@ -1,5 +1,4 @@
 -- `inclusions_at` reads its field of the header.
-use borrow.Author.Rules.{rules}
 use Rattle.catalogue.specs.Header.{inclusions_at}
 use Rattle.catalogue.proofs.header.inclusions_at.Goals as goal
 

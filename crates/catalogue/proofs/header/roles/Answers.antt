@@ -1,5 +1,4 @@
 -- `roles` reads its field of the header.
-use borrow.Author.Rules.{rules}
 use Rattle.catalogue.specs.Header.{roles}
 use Rattle.catalogue.proofs.header.roles.Goals as goal
 

@@ -1,5 +1,4 @@
 -- `total` reads its field of the header.
-use borrow.Author.Rules.{rules}
 use Rattle.catalogue.specs.Header.{total}
 use Rattle.catalogue.proofs.header.total.Goals as goal
 

@@ -1,5 +1,4 @@
 -- `word` reads two bytes, the second at one more.
-use borrow.Author.Rules.{rules}
 use Rattle.catalogue.specs.Words.{word}
 use Rattle.catalogue.proofs.header.word.Goals as goal
 

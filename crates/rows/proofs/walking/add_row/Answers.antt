@@ -5,7 +5,6 @@ use borrow.Rule.Slice.PartMut.{mid_of}
 use Rattle.rows.specs.Bits.{Bytes}
 use Rattle.rows.proofs.RowParts.{bytes_mid, row_read, span}
 use Rattle.rows.proofs.Unions.{adds_same, adds_row}
-use borrow.Author.Rules.{rules}
 use Rattle.rows.proofs.walking.add_row.Goals as goal
 
 pub returns : goal.returns

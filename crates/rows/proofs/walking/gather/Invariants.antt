@@ -1,12 +1,7 @@
 -- `walking::gather` meets its contract: at each turn the rows of the marked numbers passed are added.
-use Prim.Native.Nat.{ℕ, ◌+◌, ◌-◌, ◌*◌, ◌≤◌, ◌<◌}
-use native.Mathlib.Nat.{mul-le-mul_left}
-use native.Mathlib.Omega.{arith}
-use mathlib.Core.Path.{◌∙◌}
-use lib.ListN.{length}
+use Prim.Native.Nat.{◌-◌}
 use Rattle.rows.specs.Walks.{row_bit}
-use Rattle.rows.proofs.Walks.{Walked, walked_none, walked_more, walked_all}
-use borrow.Author.Rules.{rules}
+use Rattle.rows.proofs.Walks.{Walked}
 use Rattle.rows.proofs.walking.gather.Given as goal
 
 abbrev pub invariant-loop-c : goal.invariant-loop-c

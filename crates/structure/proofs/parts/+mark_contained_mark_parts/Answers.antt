@@ -1,9 +1,8 @@
 -- `parts::mark_contained` and `parts::mark_parts`, which call each other, meet their contracts. What each step adds (Marking) is together what the
 -- concept contains.
-use Prim.Native.Nat.{ℕ, ◌+◌, ◌<◌}
+use Prim.Native.Nat.{ℕ}
 use native.Mathlib.Omega.{arith}
 use mathlib.Core.Path.{refl, sym, subst, ◌∙◌}
-use borrow.Author.Rules.{rules}
 use Rattle.catalogue.proofs.Bounds.{concept_within}
 use Rattle.structure.specs.Parts.{Contains}
 use Rattle.structure.specs.Marks.{MarksMore}

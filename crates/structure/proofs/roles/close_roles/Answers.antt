@@ -1,5 +1,5 @@
 -- `roles::close_roles` meets its contract. The loop's invariant: the square marks reach with only roles below k between.
-use Prim.Native.Nat.{ℕ, ◌-◌, ◌≤◌}
+use Prim.Native.Nat.{ℕ}
 use native.Mathlib.Omega.{arith}
 use borrow.Author.Rules.{rules}
 use mathlib.Core.Path.{◌≡◌, subst}

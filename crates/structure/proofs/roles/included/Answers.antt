@@ -1,12 +1,12 @@
 -- `roles::included` meets its contract. The loop's invariant: the square marks the first k inclusions.
-use Prim.Native.Nat.{ℕ, ◌+◌, ◌-◌, ◌≤◌, ◌<◌}
+use Prim.Native.Nat.{ℕ, ◌+◌, ◌<◌}
 use native.Mathlib.Omega.{arith}
 use borrow.Author.Rules.{rules}
 use mathlib.Core.Path.{◌≡◌, subst}
 use mathlib.Core.Logic.{◌⊎◌, inl, ⊎_elim}
 use Rattle.catalogue.specs.Header.{inclusions}
 use Rattle.catalogue.proofs.Bounds.{header_within, inclusion_within}
-use Rattle.structure.specs.Square.{Included, Sized, MarksExactly}
+use Rattle.structure.specs.Square.{Included, MarksExactly}
 use Rattle.structure.proofs.Squares.{put, put_sized, put_exact, exactly_same}
 use Rattle.structure.proofs.Reachability.{included_more}
 use Rattle.structure.proofs.roles.included.Goals as goal

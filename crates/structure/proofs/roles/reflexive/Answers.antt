@@ -1,11 +1,10 @@
 -- `roles::reflexive` meets its contract. The loop's invariant: the roles below `role` are marked with themselves.
-use Prim.Native.Nat.{ℕ, ◌+◌, ◌-◌, ◌≤◌, ◌<◌}
+use Prim.Native.Nat.{ℕ, ◌+◌, ◌<◌}
 use native.Mathlib.Omega.{arith}
 use native.Mathlib.Decide.{dec_lt}
 use borrow.Author.Rules.{rules}
 use mathlib.Core.Path.{◌≡◌, sym, ◌∙◌}
 use mathlib.Core.Logic.{◌⊎◌, inl, inr, ⊎_elim}
-use Rattle.structure.specs.Square.{Sized, MarksExactly}
 use Rattle.structure.proofs.Squares.{blank_sized, blank_exact, put_sized, put_exact, exactly_same}
 use Rattle.structure.proofs.roles.reflexive.Goals as goal
 

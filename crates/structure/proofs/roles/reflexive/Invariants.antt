@@ -1,12 +1,7 @@
 -- `roles::reflexive` meets its contract. The loop's invariant: the roles below `role` are marked with themselves.
-use Prim.Native.Nat.{ℕ, ◌+◌, ◌-◌, ◌≤◌, ◌<◌}
-use native.Mathlib.Omega.{arith}
-use native.Mathlib.Decide.{dec_lt}
-use borrow.Author.Rules.{rules}
-use mathlib.Core.Path.{◌≡◌, sym, ◌∙◌}
-use mathlib.Core.Logic.{◌⊎◌, inl, inr, ⊎_elim}
+use Prim.Native.Nat.{◌-◌, ◌≤◌, ◌<◌}
+use mathlib.Core.Path.{◌≡◌}
 use Rattle.structure.specs.Square.{Sized, MarksExactly}
-use Rattle.structure.proofs.Squares.{blank_sized, blank_exact, put_sized, put_exact, exactly_same}
 use Rattle.structure.proofs.roles.reflexive.Given as goal
 
 abbrev pub invariant-loop-role : goal.invariant-loop-role

@@ -1,12 +1,9 @@
 -- `roles::row_through` meets its contract. The loop's invariant: the marks below s are those of the row with role k between.
 use Prim.Native.Nat.{ℕ, ◌-◌, ◌≤◌, ◌<◌}
-use native.Mathlib.Omega.{arith}
-use borrow.Author.Rules.{rules}
-use mathlib.Core.Path.{◌≡◌, refl, ◌∙◌}
+use mathlib.Core.Path.{◌≡◌}
 use mathlib.Core.Bool.{false}
-use lib.ListN.{length, get_or, length-set}
+use lib.ListN.{length, get_or}
 use Rattle.structure.specs.Square.{mark_through}
-use Rattle.structure.proofs.Squares.{stored_more}
 use Rattle.structure.proofs.roles.row_through.Given as goal
 
 abbrev pub invariant-loop-s : goal.invariant-loop-s

@@ -1,12 +1,12 @@
 -- `roles::through` meets its contract. The loop's invariant: the rows below r have role k between.
-use Prim.Native.Nat.{ℕ, ◌-◌, ◌≤◌, ◌<◌}
+use Prim.Native.Nat.{ℕ, ◌<◌}
 use native.Mathlib.Omega.{arith}
 use borrow.Author.Rules.{rules}
 use mathlib.Core.Path.{◌≡◌, refl, ◌∙◌}
 use mathlib.Core.Bool.{false}
 use mathlib.Core.List.{[]}
 use lib.ListN.{length, get_or, length-set}
-use Rattle.structure.specs.Square.{mark, mark_through}
+use Rattle.structure.specs.Square.{mark_through}
 use Rattle.structure.proofs.Squares.{stored_more}
 use Rattle.structure.proofs.roles.through.Goals as goal
 

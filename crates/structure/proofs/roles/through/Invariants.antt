@@ -1,13 +1,8 @@
 -- `roles::through` meets its contract. The loop's invariant: the rows below r have role k between.
 use Prim.Native.Nat.{ℕ, ◌-◌, ◌≤◌, ◌<◌}
-use native.Mathlib.Omega.{arith}
-use borrow.Author.Rules.{rules}
-use mathlib.Core.Path.{◌≡◌, refl, ◌∙◌}
-use mathlib.Core.Bool.{false}
-use mathlib.Core.List.{[]}
-use lib.ListN.{length, get_or, length-set}
+use mathlib.Core.Path.{◌≡◌}
+use lib.ListN.{length}
 use Rattle.structure.specs.Square.{mark, mark_through}
-use Rattle.structure.proofs.Squares.{stored_more}
 use Rattle.structure.proofs.roles.through.Given as goal
 
 abbrev pub invariant-loop-r : goal.invariant-loop-r

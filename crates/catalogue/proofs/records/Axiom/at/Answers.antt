@@ -1,5 +1,4 @@
 -- `Axiom::at` reads the four bytes of the record.
-use borrow.Author.Rules.{rules}
 use mathlib.Core.Path.{◌∙◌}
 use Rattle.catalogue.specs.Records.{left, right}
 use Rattle.catalogue.proofs.records.Axiom.at.Goals as goal

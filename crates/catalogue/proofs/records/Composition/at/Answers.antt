@@ -1,5 +1,4 @@
 -- `Composition::at` reads the six bytes of the record.
-use borrow.Author.Rules.{rules}
 use mathlib.Core.Path.{◌∙◌}
 use Rattle.catalogue.specs.Records.{role1, role2, result}
 use Rattle.catalogue.proofs.records.Composition.at.Goals as goal

@@ -1,5 +1,4 @@
 -- `Concept::at`: each field is the number at its two bytes.
-use borrow.Author.Rules.{rules}
 use native.Mathlib.Omega.{arith}
 use mathlib.Core.Path.{◌∙◌}
 use Rattle.catalogue.specs.Records.{kind, first, second}

@@ -1,5 +1,4 @@
 -- `Inclusion::at` reads the four bytes of the record.
-use borrow.Author.Rules.{rules}
 use mathlib.Core.Path.{◌∙◌}
 use Rattle.catalogue.specs.Records.{within, around}
 use Rattle.catalogue.proofs.records.Inclusion.at.Goals as goal
