@@ -1,5 +1,5 @@
 //! Links the archive of the exported functions: `libgirvotal.a` in the folder that
-//! `GIRVOTAL_LIB_DIR` names, or the one that `rt staticlib exports` writes.
+//! `GIRVOTAL_LIB_DIR` names, or the one that `./staticlib exports` writes.
 
 mod archive;
 
@@ -27,7 +27,7 @@ fn main() {
         None => (
             root.join("../target/staticlib"),
             "exports",
-            "run `rt staticlib exports` in the repository's root",
+            "run `./staticlib exports` in the repository's root",
         ),
     };
     archive::link(&folder, name, FUNCTIONS, advice);

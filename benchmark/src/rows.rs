@@ -1,4 +1,4 @@
-//! The functions on bit rows (`rt staticlib bench_rows`): how many bits are set,
+//! The functions on bit rows (`./staticlib bench_rows`): how many bits are set,
 //! and the lowest set one from a given bit on, by words and byte by byte.
 
 /// The longest row, in bytes.

@@ -1,4 +1,4 @@
-//! The exported functions (`rt staticlib exports`), each with its answer as a
+//! The exported functions (`./staticlib exports`), each with its answer as a
 //! slice: it returns 0 where accepted, number + 65,536 · record where refused,
 //! and [`SHORT_ANSWER`] where the answer has fewer than [`ENTRIES`] entries.
 

@@ -1,4 +1,6 @@
 // Counting a row's bits and finding its next set one, by words and byte by byte, for the benchmark. A slice passes as a pointer and a length.
+#![tactic(auto)]
+
 ghost use Rattle.std.specs.Prelude.{◌≡◌, ◌≤◌, length};
 ghost use Rattle.rows.specs.Bits.{count_bits};
 ghost use Rattle.rows.specs.Next.{next_bit};

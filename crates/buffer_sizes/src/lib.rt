@@ -1,4 +1,6 @@
 // How many bytes a catalogue asks for: of a store, of a work space, of a list, and the most that write gives (document 01, Store; Questions 1 to 9, 12 and 20).
+#![tactic(auto)]
+
 ghost use Rattle.std.specs.Prelude.{◌≡◌, ◌≤◌};
 ghost use Rattle.catalogue.specs.WellFormed.{WellFormed};
 ghost use Rattle.buffer_sizes.specs.Sizes.{most_axioms, most_written, Measures};

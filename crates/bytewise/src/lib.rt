@@ -1,4 +1,6 @@
 // Counting a row's bits and finding its next set one byte by byte, under the contracts of `rows::count` and `rows::next`: what the benchmark sets them beside.
+#![tactic(auto)]
+
 ghost use Rattle.std.specs.Prelude.{◌≡◌, ◌*◌, ◌≤◌, length};
 ghost use Rattle.rows.specs.Bits.{count_bits};
 ghost use Rattle.rows.specs.Next.{next_bit};

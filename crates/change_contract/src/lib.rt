@@ -1,4 +1,6 @@
 // Changes of the axioms in force (document 01, Changes; document 02, request Four): some withdrawn and some added, at once.
+#![tactic(auto)]
+
 ghost use Rattle.std.specs.Prelude.{◌+◌, ◌*◌, ◌≤◌, length};
 ghost use Rattle.change_contract.specs.Lists.{ReadAt};
 

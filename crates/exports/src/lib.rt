@@ -1,4 +1,4 @@
-// The calls for C and Rust, each under its plain name. A slice passes as a pointer and a length.
+// The calls for C and Rust. The crate exports_c gives each its plain name for C.
 ghost use Rattle.replies.specs.Check.{CheckExported};
 ghost use Rattle.replies.specs.Classify.{ClassifyExported};
 ghost use Rattle.replies.specs.Change.{ChangeExported};
@@ -11,8 +11,7 @@ use replies::{
 };
 
 // Check a catalogue, and say how many bytes its calls are to be lent.
-#[unsafe(no_mangle)]
-pub extern "C" fn girvotal_check(catalogue: &[u8], answer: &mut [u64]) -> usize
+pub fn girvotal_check(catalogue: &[u8], answer: &mut [u64]) -> usize
     ensures { CheckExported catalogue.now answer.old result answer.new }
 {
     if is_short(answer) {
@@ -23,8 +22,7 @@ pub extern "C" fn girvotal_check(catalogue: &[u8], answer: &mut [u64]) -> usize
 }
 
 // Classify.
-#[unsafe(no_mangle)]
-pub extern "C" fn girvotal_classify(
+pub fn girvotal_classify(
     catalogue: &[u8],
     store: &mut [u8],
     work: &mut [u8],
@@ -40,8 +38,7 @@ pub extern "C" fn girvotal_classify(
 }
 
 // Change the axioms in force: those of one list are withdrawn, and those of the other added.
-#[unsafe(no_mangle)]
-pub extern "C" fn girvotal_change(
+pub fn girvotal_change(
     catalogue: &[u8],
     withdrawn: &[u8],
     added: &[u8],
@@ -60,8 +57,7 @@ pub extern "C" fn girvotal_change(
 }
 
 // Look up the pair of two concepts.
-#[unsafe(no_mangle)]
-pub extern "C" fn girvotal_lookup(
+pub fn girvotal_lookup(
     catalogue: &[u8],
     first: usize,
     second: usize,
@@ -78,8 +74,7 @@ pub extern "C" fn girvotal_lookup(
 }
 
 // List the atomic concepts under one.
-#[unsafe(no_mangle)]
-pub extern "C" fn girvotal_list(
+pub fn girvotal_list(
     catalogue: &[u8],
     second: usize,
     store: &[u8],
@@ -96,8 +91,7 @@ pub extern "C" fn girvotal_list(
 }
 
 // Where a concept's row stands in the store.
-#[unsafe(no_mangle)]
-pub extern "C" fn girvotal_row(
+pub fn girvotal_row(
     catalogue: &[u8],
     concept: usize,
     store: &[u8],
@@ -113,8 +107,7 @@ pub extern "C" fn girvotal_row(
 }
 
 // Write the catalogue with the axioms in force.
-#[unsafe(no_mangle)]
-pub extern "C" fn girvotal_write(
+pub fn girvotal_write(
     catalogue: &[u8],
     store: &[u8],
     output: &mut [u8],

@@ -1,4 +1,6 @@
 // The questions of the calls that read a store, in their order.
+#![tactic(auto)]
+
 ghost use Rattle.std.specs.Prelude.{◌<◌, ◌≡◌, ◌&&◌, [], ◌∷◌, eqb, length};
 ghost use Rattle.catalogue.specs.Header.{concepts};
 ghost use Rattle.catalogue.specs.Records.{kind};

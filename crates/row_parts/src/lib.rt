@@ -1,4 +1,6 @@
 // The call row (document 01, What it covers): a concept's row, handed out as a part of the caller's store.
+#![tactic(auto)]
+
 ghost use Rattle.std.specs.Prelude.{◌≡◌};
 ghost use Rattle.row_parts.specs.Rows.{row_answer, Within, Names, HandsOut};
 

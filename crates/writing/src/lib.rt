@@ -1,4 +1,6 @@
 // The write call: the catalogue with the axioms in force (document 01, Questions: write puts 1 to 10, 13, 14, 20).
+#![tactic(auto)]
+
 ghost use Rattle.std.specs.Prelude.{◌≡◌, ◌+◌, ◌<◌, length};
 ghost use Rattle.catalogue.specs.WellFormed.{WellFormed};
 ghost use Rattle.layout.specs.Parts.{in_force};
