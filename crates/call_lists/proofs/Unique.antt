@@ -24,6 +24,10 @@ meets_unique b u v v' classify (classified a) (classified a') (classifies c) (cl
 meets_unique b u v v' (change withdrawn added) (changed a) (changed a') (changes c) (changes c') k k' =
     let (same, left) = edit_unique b withdrawn added u a a' v v' c c' in
     (ap changed same, left)
+meets_unique b u v v' classify (classified a) (changed a') _ m k k' = elim m [ ]
+meets_unique b u v v' classify (changed a) _ m _ k k' = elim m [ ]
+meets_unique b u v v' (change withdrawn added) (classified a) _ m _ k k' = elim m [ ]
+meets_unique b u v v' (change withdrawn added) (changed a) (classified a') _ m k k' = elim m [ ]
 
 -- Two turns of one call, with the same buffers before.
 record SameAfter (t t' : Turn) : Type 0 where

@@ -1,4 +1,6 @@
 // A list of calls carried out on one catalogue and one store (document 01, Edits in a row).
+#![tactic(auto)]
+
 pub mod requests; // requests.rt: the bytes of a list of calls
 pub mod answers; // answers.rt: one call, and its answer
 pub mod calls; // calls.rt: the calls in a row
