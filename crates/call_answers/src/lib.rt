@@ -1,35 +1,39 @@
 // Calls that change a store, run for the programs of the gate, with their answers written.
+#![tactic(auto)]
+
 use change_contract::Changed;
 use classification::Classified;
+use std::io;
 use test_cases::{least, say, say_refused, say_reply};
 
 // Classifies a catalogue, and writes the answer.
-fn run_classify(b: &[u8], store: &mut [u8], work: &mut [u8]) {
+fn run_classify(rt: &impl Print, b: &[u8], store: &mut [u8], work: &mut [u8]) -> io::Result<()> {
     let answer = classification::classify(b, store, work);
     match answer {
         Classified::Done(pairs, links) => {
-            say(b"pairs ", pairs);
-            say(b" links ", links);
+            say(rt, b"pairs ", pairs)?;
+            say(rt, b" links ", links)
         }
-        Classified::Refused(number, record) => say_refused(number, record),
+        Classified::Refused(number, record) => say_refused(rt, number, record),
     }
 }
 
 // Writes a change's answer.
-fn say_changed(answer: Changed) {
+fn say_changed(rt: &impl Print, answer: Changed) -> io::Result<()> {
     match answer {
         Changed::Done(removed, returned, gained, touched) => {
-            say(b"removed ", removed);
-            say(b" returned ", returned);
-            say(b" gained ", gained);
-            say(b" touched ", touched);
+            say(rt, b"removed ", removed)?;
+            say(rt, b" returned ", returned)?;
+            say(rt, b" gained ", gained)?;
+            say(rt, b" touched ", touched)
         }
-        Changed::Refused(number, record) => say_refused(number, record),
+        Changed::Refused(number, record) => say_refused(rt, number, record),
     }
 }
 
 // Changes the axioms by the exported call with so many entries of an answer, and writes its reply.
 fn run_exported(
+    rt: &impl Print,
     b: &[u8],
     withdrawn: &[u8],
     added: &[u8],
@@ -37,7 +41,7 @@ fn run_exported(
     work: &mut [u8],
     list: &mut [u8],
     entries: usize,
-) {
+) -> io::Result<()> {
     let mut answer = [99u64; 6];
     let n = least(entries, 6);
     let returned = exports::girvotal_change(
@@ -49,24 +53,26 @@ fn run_exported(
         list,
         &mut answer[..n],
     );
-    say_reply(returned, &answer);
+    say_reply(rt, returned, &answer)
 }
 
 // Changes the axioms, and writes the answer.
 fn run_change(
+    rt: &impl Print,
     b: &[u8],
     withdrawn: &[u8],
     added: &[u8],
     store: &mut [u8],
     work: &mut [u8],
     list: &mut [u8],
-) {
+) -> io::Result<()> {
     let answer = change::change(b, withdrawn, added, store, work, list);
-    say_changed(answer);
+    say_changed(rt, answer)
 }
 
 // Runs a call.
 pub fn run(
+    rt: &impl Print,
     call: usize,
     b: &[u8],
     withdrawn: &[u8],
@@ -75,10 +81,10 @@ pub fn run(
     work: &mut [u8],
     list: &mut [u8],
     entries: usize,
-) {
+) -> io::Result<()> {
     match call {
-        3 => run_classify(b, store, work),
-        4 => run_exported(b, withdrawn, added, store, work, list, entries),
-        _ => run_change(b, withdrawn, added, store, work, list),
+        3 => run_classify(rt, b, store, work),
+        4 => run_exported(rt, b, withdrawn, added, store, work, list, entries),
+        _ => run_change(rt, b, withdrawn, added, store, work, list),
     }
 }

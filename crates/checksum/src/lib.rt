@@ -1,4 +1,6 @@
 // A checksum, by which a program says in one number what a long buffer holds.
+#![tactic(auto)]
+
 ghost use Rattle.std.specs.Prelude.{◌≡◌, ◌^◌, ◌<◌};
 ghost use Rattle.checksum.specs.Fnv as fnv;
 

@@ -1,4 +1,6 @@
 // The call classify: the axioms of a catalogue in force, and all that the rules give from them.
+#![tactic(auto)]
+
 pub mod closing; // closing.rt: all that the rules give from a table of axioms
 pub mod calls; // calls.rt: classify, by questions 1 to 11
 

@@ -1,1 +1,3 @@
 // Document 001's examples, proved about the definitions.
+
+#![tactic(auto)]

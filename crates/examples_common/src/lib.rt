@@ -1,1 +1,3 @@
 // What the worked examples are said and computed by.
+
+#![tactic(auto)]

@@ -1,1 +1,3 @@
 // Worked example W7, proved about the definitions.
+
+#![tactic(auto)]

@@ -3,39 +3,43 @@
 // that are lent, the bytes lent of the store to be classified into and of the other buffer (work space, list or output; all of a buffer, where it is shorter), the
 // lengths of the catalogue and of the store to be read, two bytes each, low byte first; then that catalogue and that store. The input has W1, W8, W9
 // and W10's catalogue of document 01, short buffers and answers, and refusals of each kind.
-ghost use Rattle.std.specs.Prelude.{◌+◌, ◌≤◌, ◌<◌, length};
+#![tactic(auto)]
 
-use libc::{STDIN_FILENO, STDOUT_FILENO};
+ghost use Rattle.std.specs.Prelude.{◌+◌, ◌≤◌, ◌<◌, length, IfOk};
+
 use row_parts::Handed;
-use test_cases::{end_at, fill, least, say, say_checksum, say_refused, say_reply, short_at};
+use std::io;
+use test_cases::{
+    end_at, fill, least, read_full, say, say_checksum, say_refused, say_reply, short_at,
+};
 use writing::Wrote;
 
 // Writes the catalogue with the axioms in force.
-fn run_write(b: &[u8], store: &[u8], output: &mut [u8]) {
+fn run_write(rt: &impl Print, b: &[u8], store: &[u8], output: &mut [u8]) -> io::Result<()> {
     let answer = writing::write(b, store, output);
     match answer {
-        Wrote::Length(long) => say(b"length ", long),
-        Wrote::Refused(number, record) => say_refused(number, record),
+        Wrote::Length(long) => say(rt, b"length ", long),
+        Wrote::Refused(number, record) => say_refused(rt, number, record),
     }
 }
 
 // Writes a row's answer, and the length and the checksum of its part.
-fn say_row(part: &[u8], answer: Handed) {
+fn say_row(rt: &impl Print, part: &[u8], answer: Handed) -> io::Result<()> {
     match answer {
         Handed::Row(offset, width) => {
-            say(b"row ", offset);
-            say(b" ", width);
+            say(rt, b"row ", offset)?;
+            say(rt, b" ", width)?;
         }
-        Handed::Refused(number, record) => say_refused(number, record),
+        Handed::Refused(number, record) => say_refused(rt, number, record)?,
     }
-    say(b" part ", part.len());
-    say_checksum(b" ", part);
+    say(rt, b" part ", part.len())?;
+    say_checksum(rt, b" ", part)
 }
 
 // Answers a row, with the part beside it.
-fn run_row(b: &[u8], c: usize, store: &[u8]) {
+fn run_row(rt: &impl Print, b: &[u8], c: usize, store: &[u8]) -> io::Result<()> {
     let handed = row_parts::row_and_answer(b, c, store);
-    say_row(handed.part, handed.answer);
+    say_row(rt, handed.part, handed.answer)
 }
 
 // Runs an exported call, and answers what it returned.
@@ -61,6 +65,7 @@ fn reply(
 
 // Runs an exported call with so many entries of an answer, and writes its reply.
 fn run_exported(
+    rt: &impl Print,
     call: usize,
     b: &[u8],
     c: usize,
@@ -69,15 +74,16 @@ fn run_exported(
     store: &mut [u8],
     other: &mut [u8],
     entries: usize,
-) {
+) -> io::Result<()> {
     let mut answer = [99u64; 6];
     let n = least(entries, 6);
     let returned = reply(call, b, c, d, read, store, other, &mut answer[..n]);
-    say_reply(returned, &answer);
+    say_reply(rt, returned, &answer)
 }
 
 // Runs one call.
 fn run(
+    rt: &impl Print,
     call: usize,
     b: &[u8],
     c: usize,
@@ -86,19 +92,25 @@ fn run(
     store: &mut [u8],
     other: &mut [u8],
     entries: usize,
-) {
+) -> io::Result<()> {
     match call {
-        0 => run_write(b, read, other),
-        1 => run_row(b, c, read),
-        _ => run_exported(call, b, c, d, read, store, other, entries),
+        0 => run_write(rt, b, read, other),
+        1 => run_row(rt, b, c, read),
+        _ => run_exported(rt, call, b, c, d, read, store, other, entries),
     }
 }
 
 // Runs the case at a byte of the input, with the buffers filled afresh, and says where the next one starts. Writes the checksums
 // of both whole buffers too: what a call must not change shows there.
-fn run_case(text: &[u8], at: usize, store: &mut [u8], other: &mut [u8]) -> usize
+fn run_case(
+    rt: &impl Print,
+    text: &[u8],
+    at: usize,
+    store: &mut [u8],
+    other: &mut [u8],
+) -> io::Result<usize>
     requires { at + 16 ≤ length text.now }
-    ensures { (at < result) × (result ≤ length text.now) }
+    ensures { IfOk result (λ end. (at < end) × (end ≤ length text.now)) }
 {
     let call = short_at(text, at);
     let c = short_at(text, at + 2);
@@ -112,6 +124,7 @@ fn run_case(text: &[u8], at: usize, store: &mut [u8], other: &mut [u8]) -> usize
     fill(store, 165);
     fill(other, 90);
     run(
+        rt,
         call,
         &text[start..middle],
         c,
@@ -120,25 +133,26 @@ fn run_case(text: &[u8], at: usize, store: &mut [u8], other: &mut [u8]) -> usize
         &mut store[..s],
         &mut other[..o],
         entries,
-    );
-    say_checksum(b" store ", store);
-    say_checksum(b" other ", other);
-    io::write_all(STDOUT_FILENO, b"\n");
-    end
+    )?;
+    say_checksum(rt, b" store ", store)?;
+    say_checksum(rt, b" other ", other)?;
+    rt.write_all(b"\n")?;
+    Ok(end)
 }
 
 // Runs the cases one after the other.
-fn run_cases(text: &[u8], store: &mut [u8], other: &mut [u8]) {
+fn run_cases(rt: &impl Print, text: &[u8], store: &mut [u8], other: &mut [u8]) -> io::Result<()> {
     let mut at = 0;
     while at + 16 <= text.len() {
-        at = run_case(text, at, store, other);
+        at = run_case(rt, text, at, store, other)?;
     }
+    Ok(())
 }
 
-fn main() {
-    let mut text = io::large_buffer();
-    let n = io::read_full(STDIN_FILENO, &mut text);
-    let mut store = io::buffer();
-    let mut other = io::large_buffer();
-    run_cases(&text[..n], &mut store, &mut other);
+fn main(rt: HostRuntime) -> io::Result<()> {
+    let mut text = [0u8; 65536];
+    let n = read_full(&mut rt.stdin(), &mut text)?;
+    let mut store = [0u8; 4096];
+    let mut other = [0u8; 65536];
+    run_cases(&rt, &text[..n], &mut store, &mut other)
 }

@@ -1,10 +1,13 @@
 // Reads catalogues, one to a line in hexadecimal digits, and writes for each what questions 1 to 9 answer.
 // The input: a right catalogue and its faulty variants, 19 bytes and none among them; a full one of 512 concepts and one of 513; two
 // faults of one question, and of two; the limits, with 4,096 axioms, and one concept without roles.
+#![tactic(auto)]
+
 ghost use Rattle.std.specs.Prelude.{◌≤◌, ◌<◌, length};
 
 use catalogue::Verdict;
-use libc::{STDIN_FILENO, STDOUT_FILENO};
+use std::io;
+use test_cases::read_full;
 
 // The value of a hexadecimal digit; 0 for any other byte.
 fn digit(c: u8) -> u8
@@ -48,35 +51,28 @@ fn line_end(text: &[u8], from: usize) -> usize
 }
 
 // Writes one answer as a line: the number of the question and the record at fault, or that there is none.
-fn report(verdict: Verdict) {
+fn report(rt: &impl Print, verdict: Verdict) -> io::Result<()> {
     match verdict {
-        Verdict::Accepted => {
-            io::write_all(STDOUT_FILENO, b"accepted\n");
-        }
-        Verdict::Refused(number, record) => {
-            io::write_all(STDOUT_FILENO, b"refused ");
-            io::print_decimal(STDOUT_FILENO, number as u64);
-            io::write_all(STDOUT_FILENO, b" ");
-            io::print_decimal(STDOUT_FILENO, record as u64);
-            io::write_all(STDOUT_FILENO, b"\n");
-        }
+        Verdict::Accepted => rt.write_all(b"accepted\n"),
+        Verdict::Refused(number, record) => println!(rt; "refused {number} {record}"),
     }
 }
 
 // Checks the catalogue of each line.
-fn check_lines(text: &[u8], space: &mut [u8]) {
+fn check_lines(rt: &impl Print, text: &[u8], space: &mut [u8]) -> io::Result<()> {
     let mut at = 0;
     while at < text.len() {
         let end = line_end(text, at);
         let n = decode(&text[at..end], space);
-        report(catalogue::check(&space[..n]));
+        report(rt, catalogue::check(&space[..n]))?;
         at = end + 1;
     }
+    Ok(())
 }
 
-fn main() {
-    let mut text = io::large_buffer();
-    let n = io::read_full(STDIN_FILENO, &mut text);
-    let mut space = io::large_buffer();
-    check_lines(&text[..n], &mut space);
+fn main(rt: HostRuntime) -> io::Result<()> {
+    let mut text = [0u8; 65536];
+    let n = read_full(&mut rt.stdin(), &mut text)?;
+    let mut space = [0u8; 65536];
+    check_lines(&rt, &text[..n], &mut space)
 }

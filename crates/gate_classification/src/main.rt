@@ -3,62 +3,77 @@
 // A case: the length of the catalogue in two bytes, and the lengths of the store and of the work space that are lent in four bytes each, low byte first
 // (all of a buffer, where it is shorter); then the catalogue. The input has W1, W7, W8 and W10 of document 01, a byte too few of each buffer, and larger
 // catalogues.
-ghost use Rattle.std.specs.Prelude.{◌+◌, ◌≤◌, ◌<◌, length};
+#![tactic(auto)]
+
+ghost use Rattle.std.specs.Prelude.{◌+◌, ◌≤◌, ◌<◌, length, IfOk};
 ghost use Rattle.layout.specs.Parts.{Sized};
 
 use classification::{Classified, classify};
 use layout::used;
-use libc::{STDIN_FILENO, STDOUT_FILENO};
-use test_cases::{end_at, fill, least, long_at, say, say_checksum, say_refused};
+use std::io;
+use test_cases::{end_at, fill, least, long_at, read_full, say, say_checksum, say_refused};
 
 // Writes the counts of pairs and links, and the checksum of the store's used part.
-fn say_classified(b: &[u8], pairs: usize, links: usize, store: &[u8])
+fn say_classified(
+    rt: &impl Print,
+    b: &[u8],
+    pairs: usize,
+    links: usize,
+    store: &[u8],
+) -> io::Result<()>
     requires { Sized b.now store.now }
 {
     let end = used(b);
-    say(b"pairs ", pairs);
-    say(b" links ", links);
-    say_checksum(b" used ", &store[..end]);
+    say(rt, b"pairs ", pairs)?;
+    say(rt, b" links ", links)?;
+    say_checksum(rt, b" used ", &store[..end])
 }
 
 // Classifies a catalogue, and writes the answer.
-fn run(b: &[u8], store: &mut [u8], work: &mut [u8]) {
+fn run(rt: &impl Print, b: &[u8], store: &mut [u8], work: &mut [u8]) -> io::Result<()> {
     let answer = classify(b, store, work);
     match answer {
-        Classified::Refused(number, record) => say_refused(number, record),
-        Classified::Done(pairs, links) => say_classified(b, pairs, links, store),
+        Classified::Refused(number, record) => say_refused(rt, number, record),
+        Classified::Done(pairs, links) => say_classified(rt, b, pairs, links, store),
     }
 }
 
 // Runs the case at a byte of the input, and says where the next one starts.
-fn run_case(text: &[u8], at: usize, store: &mut [u8], work: &mut [u8]) -> usize
+fn run_case(
+    rt: &impl Print,
+    text: &[u8],
+    at: usize,
+    store: &mut [u8],
+    work: &mut [u8],
+) -> io::Result<usize>
     requires { at + 10 ≤ length text.now }
-    ensures { (at < result) × (result ≤ length text.now) }
+    ensures { IfOk result (λ end. (at < end) × (end ≤ length text.now)) }
 {
     let start = at + 10;
     let end = end_at(text, at, start);
     let s = least(long_at(text, at + 2), store.len());
     let w = least(long_at(text, at + 6), work.len());
     fill(work, 90);
-    run(&text[start..end], &mut store[..s], &mut work[..w]);
-    say_checksum(b" store ", store);
-    say_checksum(b" work ", work);
-    io::write_all(STDOUT_FILENO, b"\n");
-    end
+    run(rt, &text[start..end], &mut store[..s], &mut work[..w])?;
+    say_checksum(rt, b" store ", store)?;
+    say_checksum(rt, b" work ", work)?;
+    rt.write_all(b"\n")?;
+    Ok(end)
 }
 
 // Runs the cases one after the other.
-fn run_cases(text: &[u8], store: &mut [u8], work: &mut [u8]) {
+fn run_cases(rt: &impl Print, text: &[u8], store: &mut [u8], work: &mut [u8]) -> io::Result<()> {
     let mut at = 0;
     while at + 10 <= text.len() {
-        at = run_case(text, at, store, work);
+        at = run_case(rt, text, at, store, work)?;
     }
+    Ok(())
 }
 
-fn main() {
-    let mut text = io::large_buffer();
-    let n = io::read_full(STDIN_FILENO, &mut text);
+fn main(rt: HostRuntime) -> io::Result<()> {
+    let mut text = [0u8; 65536];
+    let n = read_full(&mut rt.stdin(), &mut text)?;
     let mut store = [165u8; 589824];
     let mut work = [0u8; 557056];
-    run_cases(&text[..n], &mut store, &mut work);
+    run_cases(&rt, &text[..n], &mut store, &mut work)
 }

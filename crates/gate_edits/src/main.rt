@@ -5,11 +5,13 @@
 // input, two bytes each. Starts count from the input's first byte, and what lies past its last byte is left out. 3 is classify, 4 the exported change and 5
 // change, where the part is the catalogue. 0 fills a part of the store with the number in the place of the withdrawn list's start, from the byte in the
 // store's place on, as many bytes as the work space's place says; 1 sets there the bits of the part of the input, and 2 clears them.
+#![tactic(auto)]
+
 ghost use Rattle.std.specs.Prelude.{◌+◌, ◌≤◌, ◌<◌, ◌≡◌, length};
 
 use call_answers::run;
-use libc::{STDIN_FILENO, STDOUT_FILENO};
-use test_cases::{end_at, fill, least, long_at, say_checksum, say_digits, short_at};
+use std::io;
+use test_cases::{end_at, fill, least, long_at, read_full, say_checksum, say_digits, short_at};
 
 // The bytes of a step.
 const STEP: usize = 26;
@@ -23,7 +25,15 @@ fn start_at(text: &[u8], at: usize) -> usize
 }
 
 // Runs the call of a step with its two lists.
-fn run_lists(text: &[u8], at: usize, b: &[u8], store: &mut [u8], work: &mut [u8], list: &mut [u8])
+fn run_lists(
+    rt: &impl Print,
+    text: &[u8],
+    at: usize,
+    b: &[u8],
+    store: &mut [u8],
+    work: &mut [u8],
+    list: &mut [u8],
+) -> io::Result<()>
     requires { at + 26 ≤ length text.now }
 {
     let call = short_at(text, at);
@@ -33,6 +43,7 @@ fn run_lists(text: &[u8], at: usize, b: &[u8], store: &mut [u8], work: &mut [u8]
     let new_end = end_at(text, at + 8, new);
     let entries = short_at(text, at + 10);
     run(
+        rt,
         call,
         b,
         &text[out..out_end],
@@ -41,22 +52,30 @@ fn run_lists(text: &[u8], at: usize, b: &[u8], store: &mut [u8], work: &mut [u8]
         work,
         list,
         entries,
-    );
+    )
 }
 
 // Writes the front of the list and the checksums of the whole buffers: what a call must not change shows there.
-fn say_buffers(store: &[u8], work: &[u8], list: &[u8]) {
+fn say_buffers(rt: &impl Print, store: &[u8], work: &[u8], list: &[u8]) -> io::Result<()> {
     let shown = least(32, list.len());
-    io::write_all(STDOUT_FILENO, b" front ");
-    say_digits(&list[..shown]);
-    say_checksum(b" store ", store);
-    say_checksum(b" work ", work);
-    say_checksum(b" list ", list);
-    io::write_all(STDOUT_FILENO, b"\n");
+    rt.write_all(b" front ")?;
+    say_digits(rt, &list[..shown])?;
+    say_checksum(rt, b" store ", store)?;
+    say_checksum(rt, b" work ", work)?;
+    say_checksum(rt, b" list ", list)?;
+    rt.write_all(b"\n")
 }
 
 // Runs the call of a step, with the work space and the list filled afresh.
-fn run_call(text: &[u8], at: usize, b: &[u8], store: &mut [u8], work: &mut [u8], list: &mut [u8])
+fn run_call(
+    rt: &impl Print,
+    text: &[u8],
+    at: usize,
+    b: &[u8],
+    store: &mut [u8],
+    work: &mut [u8],
+    list: &mut [u8],
+) -> io::Result<()>
     requires { at + 26 ≤ length text.now }
 {
     let t = least(short_at(text, at + 12), list.len());
@@ -64,8 +83,16 @@ fn run_call(text: &[u8], at: usize, b: &[u8], store: &mut [u8], work: &mut [u8],
     let w = least(long_at(text, at + 18), work.len());
     fill(work, 90);
     fill(list, 195);
-    run_lists(text, at, b, &mut store[..s], &mut work[..w], &mut list[..t]);
-    say_buffers(store, work, list);
+    run_lists(
+        rt,
+        text,
+        at,
+        b,
+        &mut store[..s],
+        &mut work[..w],
+        &mut list[..t],
+    )?;
+    say_buffers(rt, store, work, list)
 }
 
 // Fills a part of the store with a byte.
@@ -100,43 +127,70 @@ fn run_bits(text: &[u8], at: usize, bytes: &[u8], store: &mut [u8])
 }
 
 // Runs the step at a byte of the input.
-fn run_step(text: &[u8], at: usize, store: &mut [u8], work: &mut [u8], list: &mut [u8])
+fn run_step(
+    rt: &impl Print,
+    text: &[u8],
+    at: usize,
+    store: &mut [u8],
+    work: &mut [u8],
+    list: &mut [u8],
+) -> io::Result<()>
     requires { at + 26 ≤ length text.now }
 {
     let start = start_at(text, at + 22);
     let end = end_at(text, at + 24, start);
     match short_at(text, at) {
-        0 => run_fill(text, at, store),
-        1 | 2 => run_bits(text, at, &text[start..end], store),
-        _ => run_call(text, at, &text[start..end], store, work, list),
+        0 => {
+            run_fill(text, at, store);
+            Ok(())
+        }
+        1 | 2 => {
+            run_bits(text, at, &text[start..end], store);
+            Ok(())
+        }
+        _ => run_call(rt, text, at, &text[start..end], store, work, list),
     }
 }
 
 // Runs the steps up to a byte of the input, one after the other.
-fn run_steps(text: &[u8], end: usize, store: &mut [u8], work: &mut [u8], list: &mut [u8])
+fn run_steps(
+    rt: &impl Print,
+    text: &[u8],
+    end: usize,
+    store: &mut [u8],
+    work: &mut [u8],
+    list: &mut [u8],
+) -> io::Result<()>
     requires { end ≤ length text.now }
 {
     let mut at = 2;
     while at + STEP <= end {
-        run_step(text, at, store, work, list);
+        run_step(rt, text, at, store, work, list)?;
         at += STEP;
     }
+    Ok(())
 }
 
 // Runs all the steps.
-fn run_all(text: &[u8], store: &mut [u8], work: &mut [u8], list: &mut [u8]) {
+fn run_all(
+    rt: &impl Print,
+    text: &[u8],
+    store: &mut [u8],
+    work: &mut [u8],
+    list: &mut [u8],
+) -> io::Result<()> {
     if text.len() < 2 {
-        return;
+        return Ok(());
     }
     let end = least(2 + STEP * short_at(text, 0), text.len());
-    run_steps(text, end, store, work, list);
+    run_steps(rt, text, end, store, work, list)
 }
 
-fn main() {
-    let mut text = io::large_buffer();
-    let n = io::read_full(STDIN_FILENO, &mut text);
+fn main(rt: HostRuntime) -> io::Result<()> {
+    let mut text = [0u8; 65536];
+    let n = read_full(&mut rt.stdin(), &mut text)?;
     let mut store = [165u8; 262160];
     let mut work = [0u8; 229392];
     let mut list = [0u8; 1040];
-    run_all(&text[..n], &mut store, &mut work, &mut list);
+    run_all(&rt, &text[..n], &mut store, &mut work, &mut list)
 }

@@ -1,74 +1,86 @@
 // Runs lookup, listing and row on the cases of its input, and writes what each answers.
 // A case: the call (0 lookup, 1 listing, 2 row), two concept numbers, the lengths of the list, the catalogue and the store that are lent, two bytes
 // each, low byte first (all of the list, where it is shorter); then the catalogue and the store. The input has W1, W4, W8, W9 and W10 of document 01, a case for each refusal, and others.
-ghost use Rattle.std.specs.Prelude.{◌+◌, ◌≤◌, ◌<◌, length};
+#![tactic(auto)]
 
-use libc::{STDIN_FILENO, STDOUT_FILENO};
+ghost use Rattle.std.specs.Prelude.{◌+◌, ◌≤◌, ◌<◌, length, IfOk};
+
 use lookups::{Listed, Looked};
 use row_parts::Handed;
-use test_cases::{end_at, fill, least, say, say_digits, say_refused, short_at};
+use std::io;
+use test_cases::{end_at, fill, least, read_full, say, say_digits, say_refused, short_at};
 
 // Writes a space and bytes, and ends the line.
-fn say_bytes(bytes: &[u8]) {
-    io::write_all(STDOUT_FILENO, b" ");
-    say_digits(bytes);
-    io::write_all(STDOUT_FILENO, b"\n");
+fn say_bytes(rt: &impl Print, bytes: &[u8]) -> io::Result<()> {
+    rt.write_all(b" ")?;
+    say_digits(rt, bytes)?;
+    rt.write_all(b"\n")
 }
 
 // Answers a lookup.
-fn run_lookup(b: &[u8], c: usize, d: usize, store: &[u8]) {
+fn run_lookup(rt: &impl Print, b: &[u8], c: usize, d: usize, store: &[u8]) -> io::Result<()> {
     let answer = lookups::lookup(b, c, d, store);
     match answer {
-        Looked::Yes => {
-            io::write_all(STDOUT_FILENO, b"yes\n");
-        }
-        Looked::No => {
-            io::write_all(STDOUT_FILENO, b"no\n");
-        }
+        Looked::Yes => rt.write_all(b"yes\n"),
+        Looked::No => rt.write_all(b"no\n"),
         Looked::Refused(number, record) => {
-            say_refused(number, record);
-            io::write_all(STDOUT_FILENO, b"\n");
+            say_refused(rt, number, record)?;
+            rt.write_all(b"\n")
         }
     }
 }
 
 // Answers a listing, with the whole list as it is left.
-fn run_listing(b: &[u8], d: usize, store: &[u8], list: &mut [u8]) {
+fn run_listing(
+    rt: &impl Print,
+    b: &[u8],
+    d: usize,
+    store: &[u8],
+    list: &mut [u8],
+) -> io::Result<()> {
     fill(list, 195);
     let answer = lookups::listing(b, d, store, list);
     match answer {
-        Listed::Count(count) => say(b"listed ", count),
-        Listed::Refused(number, record) => say_refused(number, record),
+        Listed::Count(count) => say(rt, b"listed ", count)?,
+        Listed::Refused(number, record) => say_refused(rt, number, record)?,
     }
-    say_bytes(list);
+    say_bytes(rt, list)
 }
 
 // Answers a row, with the bytes of the part.
-fn run_row(b: &[u8], c: usize, store: &[u8]) {
+fn run_row(rt: &impl Print, b: &[u8], c: usize, store: &[u8]) -> io::Result<()> {
     let answer = row_parts::row_answer(b, c, store);
     match answer {
         Handed::Row(offset, width) => {
-            say(b"row ", offset);
-            say(b" ", width);
+            say(rt, b"row ", offset)?;
+            say(rt, b" ", width)?;
         }
-        Handed::Refused(number, record) => say_refused(number, record),
+        Handed::Refused(number, record) => say_refused(rt, number, record)?,
     }
-    say_bytes(row_parts::row(b, c, store));
+    say_bytes(rt, row_parts::row(b, c, store))
 }
 
 // Runs one call.
-fn run(call: usize, b: &[u8], c: usize, d: usize, store: &[u8], list: &mut [u8]) {
+fn run(
+    rt: &impl Print,
+    call: usize,
+    b: &[u8],
+    c: usize,
+    d: usize,
+    store: &[u8],
+    list: &mut [u8],
+) -> io::Result<()> {
     match call {
-        0 => run_lookup(b, c, d, store),
-        1 => run_listing(b, d, store, list),
-        _ => run_row(b, c, store),
+        0 => run_lookup(rt, b, c, d, store),
+        1 => run_listing(rt, b, d, store, list),
+        _ => run_row(rt, b, c, store),
     }
 }
 
 // Runs the case at a byte of the input, and says where the next one starts.
-fn run_case(text: &[u8], at: usize, list: &mut [u8]) -> usize
+fn run_case(rt: &impl Print, text: &[u8], at: usize, list: &mut [u8]) -> io::Result<usize>
     requires { at + 12 ≤ length text.now }
-    ensures { (at < result) × (result ≤ length text.now) }
+    ensures { IfOk result (λ end. (at < end) × (end ≤ length text.now)) }
 {
     let call = short_at(text, at);
     let c = short_at(text, at + 2);
@@ -78,27 +90,29 @@ fn run_case(text: &[u8], at: usize, list: &mut [u8]) -> usize
     let middle = end_at(text, at + 8, start);
     let end = end_at(text, at + 10, middle);
     run(
+        rt,
         call,
         &text[start..middle],
         c,
         d,
         &text[middle..end],
         &mut list[..long],
-    );
-    end
+    )?;
+    Ok(end)
 }
 
 // Runs the cases one after the other.
-fn run_cases(text: &[u8], list: &mut [u8]) {
+fn run_cases(rt: &impl Print, text: &[u8], list: &mut [u8]) -> io::Result<()> {
     let mut at = 0;
     while at + 12 <= text.len() {
-        at = run_case(text, at, list);
+        at = run_case(rt, text, at, list)?;
     }
+    Ok(())
 }
 
-fn main() {
-    let mut text = io::large_buffer();
-    let n = io::read_full(STDIN_FILENO, &mut text);
-    let mut list = io::buffer();
-    run_cases(&text[..n], &mut list);
+fn main(rt: HostRuntime) -> io::Result<()> {
+    let mut text = [0u8; 65536];
+    let n = read_full(&mut rt.stdin(), &mut text)?;
+    let mut list = [0u8; 4096];
+    run_cases(&rt, &text[..n], &mut list)
 }

@@ -4,8 +4,8 @@
 ghost use Rattle.std.specs.Prelude.{◌≡◌, ◌+◌, ◌*◌, ◌^◌, ◌≤◌, ◌<◌, length};
 
 use super::text;
-use libc::STDOUT_FILENO;
 use rows::Found;
+use std::io;
 
 // Whether bit i of so many is the first or last of a word or of the rest.
 fn is_edge(i: usize, bits: usize) -> bool
@@ -42,22 +42,20 @@ fn mark(row: &mut [u8], p: usize)
 }
 
 // A number after a space.
-fn say(n: usize) {
-    text(b" ");
-    io::print_decimal(STDOUT_FILENO, n as u64);
+fn say(rt: &impl Print, n: usize) -> io::Result<()> {
+    text(rt, b" ")?;
+    rt.print(n)
 }
 
 // A bit's number, and what `next` answers from it on.
-fn say_from(row: &[u8], from: usize)
+fn say_from(rt: &impl Print, row: &[u8], from: usize) -> io::Result<()>
     requires { length row.now ≤ 1048576 }
 {
-    say(from);
-    text(b":");
+    say(rt, from)?;
+    text(rt, b":")?;
     match rows::next(row, from) {
-        Found::At(i) => {
-            io::print_decimal(STDOUT_FILENO, i as u64);
-        }
-        Found::Nothing => text(b"none"),
+        Found::At(i) => rt.print(i),
+        Found::Nothing => text(rt, b"none"),
     }
 }
 
@@ -76,27 +74,26 @@ fn is_place(i: usize, bits: usize) -> bool
 }
 
 // What `next` answers from such bits on.
-fn say_places(row: &[u8])
+fn say_places(rt: &impl Print, row: &[u8]) -> io::Result<()>
     requires { length row.now ≤ 1048576 }
 {
     let bits = 8 * row.len();
-    let mut i = 0;
-    while i < bits + 67 {
+    for i in 0..bits + 67 {
         if is_place(i, bits) {
-            say_from(row, i);
+            say_from(rt, row, i)?;
         }
-        i += 1;
     }
+    Ok(())
 }
 
 // The same, and then from far past the end.
-fn say_nexts(row: &[u8])
+fn say_nexts(rt: &impl Print, row: &[u8]) -> io::Result<()>
     requires { length row.now ≤ 1048576 }
 {
-    text(b" next");
-    say_places(row);
-    say_from(row, 1000000000);
-    say_from(row, 18446744073709551615);
+    text(rt, b" next")?;
+    say_places(rt, row)?;
+    say_from(rt, row, 1000000000)?;
+    say_from(rt, row, 18446744073709551615)
 }
 
 // What `next` answers, and the row's end where that is nothing.
@@ -119,14 +116,15 @@ fn mix(sum: usize, n: usize) -> usize
 }
 
 // A number, if it is to be shown.
-fn say_if(shown: bool, n: usize) {
+fn say_if(rt: &impl Print, shown: bool, n: usize) -> io::Result<()> {
     if shown {
-        say(n);
+        say(rt, n)?;
     }
+    Ok(())
 }
 
 // The set bits, found by `next` one after the other: each if it is to be shown, how many there are, and their checksum.
-fn say_walk(row: &[u8], shown: bool)
+fn say_walk(rt: &impl Print, row: &[u8], shown: bool) -> io::Result<()>
     requires { length row.now ≤ 1048576 }
 {
     let end = 8 * row.len();
@@ -134,93 +132,95 @@ fn say_walk(row: &[u8], shown: bool)
     let mut sum = 0;
     let mut i = next_or_end(row, 0);
     while i < end {
-        say_if(shown, i);
+        say_if(rt, shown, i)?;
         found += 1;
         sum = mix(sum, i);
         i = next_or_end(row, i + 1);
     }
-    text(b" finds");
-    say(found);
-    text(b" sum");
-    say(sum);
+    text(rt, b" finds")?;
+    say(rt, found)?;
+    text(rt, b" sum")?;
+    say(rt, sum)
 }
 
 // Name p of several, each of twenty letters.
-fn say_name(names: &[u8], p: usize)
+fn say_name(rt: &impl Print, names: &[u8], p: usize) -> io::Result<()>
     requires { 20 * p + 20 ≤ length names.now }
 {
     let start = 20 * p;
     let end = start + 20;
-    text(&names[start..end]);
+    text(rt, &names[start..end])
 }
 
 // Starts a line: the row's length and the name of pattern p, or of single bits.
-fn start(row: &[u8], p: usize)
+fn start(rt: &impl Print, row: &[u8], p: usize) -> io::Result<()>
     requires { p < 7 }
 {
-    text(b"\n");
-    io::print_decimal(STDOUT_FILENO, row.len() as u64);
+    text(rt, b"\n")?;
+    rt.print(row.len())?;
     say_name(
+        rt,
         b" bytes, whole: count bytes, edges: count bytes, fives: count bytes, final: count bytes, words: count bytes, empty: count bytes, alone: edges",
         p,
-    );
+    )
 }
 
 // The line of a row of pattern p.
-fn say_line(row: &[u8], p: usize)
+fn say_line(rt: &impl Print, row: &[u8], p: usize) -> io::Result<()>
     requires { (length row.now ≤ 1048576) × (p < 6) }
 {
-    start(row, p);
-    say(rows::count(row));
-    text(b" walk");
-    say_walk(row, (p == 1) & (row.len() < 100));
-    say_nexts(row);
+    start(rt, row, p)?;
+    say(rt, rows::count(row))?;
+    text(rt, b" walk")?;
+    say_walk(rt, row, (p == 1) & (row.len() < 100))?;
+    say_nexts(rt, row)
 }
 
 // A row with bit i alone: how many bits are set, and what `next` answers from the start, from the bit and from past it on.
-fn say_single(row: &[u8], i: usize)
+fn say_single(rt: &impl Print, row: &[u8], i: usize) -> io::Result<()>
     requires { (length row.now ≤ 1048576) × (i < 8 * length row.now) }
 {
-    text(b" |");
-    say(rows::count(row));
-    say_from(row, 0);
-    say_from(row, i);
-    say_from(row, i + 1);
+    text(rt, b" |")?;
+    say(rt, rows::count(row))?;
+    say_from(rt, row, 0)?;
+    say_from(rt, row, i)?;
+    say_from(rt, row, i + 1)
 }
 
 // Sets bit i of a clear row for that.
-fn show_single(row: &mut [u8], i: usize)
+fn show_single(rt: &impl Print, row: &mut [u8], i: usize) -> io::Result<()>
     requires { (length row.old ≤ 1048576) × (i < 8 * length row.old) }
 {
     rows::put(row, i);
-    say_single(row, i);
+    say_single(rt, row, i)?;
     rows::clear(row, i);
+    Ok(())
 }
 
 // The line of the bits at edges, one at a time in a clear row.
-fn show_singles(row: &mut [u8])
+fn show_singles(rt: &impl Print, row: &mut [u8]) -> io::Result<()>
     requires { length row.old ≤ 1048576 }
 {
     let bits = 8 * row.len();
-    let mut i = 0;
-    start(row, 6);
-    while i < bits {
+    start(rt, row, 6)?;
+    for i in 0..bits {
         if is_edge(i, bits) {
-            show_single(row, i);
+            show_single(rt, row, i)?;
         }
-        i += 1;
     }
+    Ok(())
 }
 
 // Sets the bits of pattern p alone, and writes the line. After the last pattern, which is clear, come the single bits of a short row.
-fn show(row: &mut [u8], p: usize)
+fn show(rt: &impl Print, row: &mut [u8], p: usize) -> io::Result<()>
     requires { (length row.old ≤ 1048576) × (p < 6) }
 {
     mark(row, p);
-    say_line(row, p);
+    say_line(rt, row, p)?;
     if (p == 5) & (row.len() < 100) {
-        show_singles(row);
+        show_singles(rt, row)?;
     }
+    Ok(())
 }
 
 // The lengths of the rows, in bytes.
@@ -242,19 +242,18 @@ fn length_at(k: usize) -> usize
 }
 
 // The lines of rows of each of ten lengths and six patterns.
-fn show_rows(row: &mut [u8])
+fn show_rows(rt: &impl Print, row: &mut [u8]) -> io::Result<()>
     requires { length row.old ≡ 1048576 }
 {
-    let mut k = 0;
-    while k < 60 {
+    for k in 0..60usize {
         let n = length_at(k / 6);
-        show(&mut row[..n], k % 6);
-        k += 1;
+        show(rt, &mut row[..n], k % 6)?;
     }
+    Ok(())
 }
 
 // The same, each row the start of one of the longest length; what lies past it is set at first.
-pub fn show_lengths() {
+pub fn show_lengths(rt: &impl Print) -> io::Result<()> {
     let mut row = [255u8; 1048576];
-    show_rows(&mut row);
+    show_rows(rt, &mut row)
 }

@@ -1,12 +1,14 @@
 // Carries out the lists of calls of its input, and writes what each answers and leaves in the buffers.
 // A case: the bytes of the store, of the work space and of the lists and the numbers of the answers that are lent (all of a buffer, where it is shorter), the
 // lengths of the catalogue and of the list of calls, two bytes each, low byte first; then that catalogue and those calls.
-ghost use Rattle.std.specs.Prelude.{◌+◌, ◌≤◌, ◌<◌, length};
+#![tactic(auto)]
+
+ghost use Rattle.std.specs.Prelude.{◌+◌, ◌≤◌, ◌<◌, length, IfOk};
 
 use call_lists::Carried;
 use call_lists::requests::{ENTRIES, LIST};
-use libc::{STDIN_FILENO, STDOUT_FILENO};
-use test_cases::{end_at, fill, least, say, say_checksum, short_at};
+use std::io;
+use test_cases::{end_at, fill, least, read_full, say, say_checksum, short_at};
 
 // The bytes of a case's numbers.
 const CASE: usize = 12;
@@ -15,46 +17,45 @@ const CASE: usize = 12;
 const SHOWN: usize = 64;
 
 // Writes numbers, a space before each.
-fn say_numbers(numbers: &[usize]) {
-    let mut i = 0;
-    while i < numbers.len() {
-        say(b" ", numbers[i]);
-        i += 1;
+fn say_numbers(rt: &impl Print, numbers: &[usize]) -> io::Result<()> {
+    for number in numbers {
+        say(rt, b" ", *number)?;
     }
+    Ok(())
 }
 
 // Writes the answer, and says how many calls were carried out.
-fn say_carried(carried: Carried) -> usize {
+fn say_carried(rt: &impl Print, carried: Carried) -> io::Result<usize> {
     match carried {
         Carried::Done(count) => {
-            say(b"done ", count);
-            count
+            say(rt, b"done ", count)?;
+            Ok(count)
         }
         Carried::BadCall(k) => {
-            say(b"bad call ", k);
-            0
+            say(rt, b"bad call ", k)?;
+            Ok(0)
         }
         Carried::ShortLists => {
-            io::write_all(STDOUT_FILENO, b"short lists");
-            0
+            rt.write_all(b"short lists")?;
+            Ok(0)
         }
         Carried::ShortAnswers => {
-            io::write_all(STDOUT_FILENO, b"short answers");
-            0
+            rt.write_all(b"short answers")?;
+            Ok(0)
         }
     }
 }
 
 // Writes the checksums of the whole buffers: what a list must not change shows there.
-fn say_buffers(store: &[u8], work: &[u8], lists: &[u8]) {
-    say_checksum(b"store ", store);
-    say_checksum(b" work ", work);
-    say_checksum(b" lists ", lists);
-    io::write_all(STDOUT_FILENO, b"\n");
+fn say_buffers(rt: &impl Print, store: &[u8], work: &[u8], lists: &[u8]) -> io::Result<()> {
+    say_checksum(rt, b"store ", store)?;
+    say_checksum(rt, b" work ", work)?;
+    say_checksum(rt, b" lists ", lists)?;
+    rt.write_all(b"\n")
 }
 
 // Writes the answer of call k, and the checksum of its list, if the buffers have both.
-fn say_call(lists: &[u8], answers: &[usize], k: usize)
+fn say_call(rt: &impl Print, lists: &[u8], answers: &[usize], k: usize) -> io::Result<()>
     requires { k < 64 }
 {
     let list = LIST * k;
@@ -62,30 +63,30 @@ fn say_call(lists: &[u8], answers: &[usize], k: usize)
     let entry = ENTRIES * k;
     let entry_end = entry + ENTRIES;
     if lists.len() < list_end {
-        return;
+        return Ok(());
     }
     if answers.len() < entry_end {
-        return;
+        return Ok(());
     }
-    say_numbers(&answers[entry..entry_end]);
-    say_checksum(b" list ", &lists[list..list_end]);
-    io::write_all(STDOUT_FILENO, b"\n");
+    say_numbers(rt, &answers[entry..entry_end])?;
+    say_checksum(rt, b" list ", &lists[list..list_end])?;
+    rt.write_all(b"\n")
 }
 
 // Writes the answers of some calls, one after the other.
-fn say_calls(lists: &[u8], answers: &[usize], count: usize)
+fn say_calls(rt: &impl Print, lists: &[u8], answers: &[usize], count: usize) -> io::Result<()>
     requires { count ≤ 64 }
 {
-    let mut k = 0;
-    while k < count {
-        say_call(lists, answers, k);
-        k += 1;
+    for k in 0..count {
+        say_call(rt, lists, answers, k)?;
     }
+    Ok(())
 }
 
 // Carries out a list of calls, with so many numbers of answers and bytes of the lists lent. Writes what it answers, and for each call its answer and list; and
 // for the place past the last call, which stays.
 fn run(
+    rt: &impl Print,
     b: &[u8],
     calls: &[u8],
     store: &mut [u8],
@@ -93,20 +94,27 @@ fn run(
     lists: &mut [u8],
     numbers: usize,
     bytes: usize,
-) {
+) -> io::Result<()> {
     let mut answers = [99usize; 390];
     let n = least(numbers, 390);
     let t = least(bytes, lists.len());
     let carried = call_lists::carry_out(b, calls, store, work, &mut lists[..t], &mut answers[..n]);
-    let count = say_carried(carried);
-    io::write_all(STDOUT_FILENO, b"\n");
-    say_calls(lists, &answers, least(count, SHOWN - 1) + 1);
+    let count = say_carried(rt, carried)?;
+    rt.write_all(b"\n")?;
+    say_calls(rt, lists, &answers, least(count, SHOWN - 1) + 1)
 }
 
 // Runs the case at a byte of the input, with the buffers filled afresh, and says where the next one starts.
-fn run_case(text: &[u8], at: usize, store: &mut [u8], work: &mut [u8], lists: &mut [u8]) -> usize
+fn run_case(
+    rt: &impl Print,
+    text: &[u8],
+    at: usize,
+    store: &mut [u8],
+    work: &mut [u8],
+    lists: &mut [u8],
+) -> io::Result<usize>
     requires { at + 12 ≤ length text.now }
-    ensures { (at < result) × (result ≤ length text.now) }
+    ensures { IfOk result (λ end. (at < end) × (end ≤ length text.now)) }
 {
     let s = least(short_at(text, at), store.len());
     let w = least(short_at(text, at + 2), work.len());
@@ -119,6 +127,7 @@ fn run_case(text: &[u8], at: usize, store: &mut [u8], work: &mut [u8], lists: &m
     fill(work, 90);
     fill(lists, 195);
     run(
+        rt,
         &text[start..middle],
         &text[middle..end],
         &mut store[..s],
@@ -126,24 +135,31 @@ fn run_case(text: &[u8], at: usize, store: &mut [u8], work: &mut [u8], lists: &m
         lists,
         numbers,
         bytes,
-    );
-    say_buffers(store, work, lists);
-    end
+    )?;
+    say_buffers(rt, store, work, lists)?;
+    Ok(end)
 }
 
 // Runs the cases one after the other.
-fn run_cases(text: &[u8], store: &mut [u8], work: &mut [u8], lists: &mut [u8]) {
+fn run_cases(
+    rt: &impl Print,
+    text: &[u8],
+    store: &mut [u8],
+    work: &mut [u8],
+    lists: &mut [u8],
+) -> io::Result<()> {
     let mut at = 0;
     while at + CASE <= text.len() {
-        at = run_case(text, at, store, work, lists);
+        at = run_case(rt, text, at, store, work, lists)?;
     }
+    Ok(())
 }
 
-fn main() {
-    let mut text = io::large_buffer();
-    let n = io::read_full(STDIN_FILENO, &mut text);
-    let mut store = io::buffer();
-    let mut work = io::buffer();
-    let mut lists = io::large_buffer();
-    run_cases(&text[..n], &mut store, &mut work, &mut lists);
+fn main(rt: HostRuntime) -> io::Result<()> {
+    let mut text = [0u8; 65536];
+    let n = read_full(&mut rt.stdin(), &mut text)?;
+    let mut store = [0u8; 4096];
+    let mut work = [0u8; 4096];
+    let mut lists = [0u8; 65536];
+    run_cases(&rt, &text[..n], &mut store, &mut work, &mut lists)
 }

@@ -1,145 +1,153 @@
 // Puts questions 10 to 14 to stores, and writes which concepts occur by their axioms: W1's, W9's, one whose parts have parts, and 4,096 and 4,097
 // axioms.
+#![tactic(auto)]
+
 ghost use Rattle.std.specs.Prelude.{◌≤◌, length};
 ghost use Rattle.catalogue.specs.WellFormed.{WellFormed};
 ghost use Rattle.layout.specs.Parts.{Sized, Clear};
 
 use catalogue::Verdict;
-use libc::STDOUT_FILENO;
+use std::io;
 
 // Writes the number of the question that refuses.
-fn report_refused(number: usize) {
-    io::write_all(STDOUT_FILENO, b"refused ");
-    io::print_decimal(STDOUT_FILENO, number as u64);
-    io::write_all(STDOUT_FILENO, b"\n");
+fn report_refused(rt: &impl Print, number: usize) -> io::Result<()> {
+    println!(rt; "refused {number}")
 }
 
 // Writes a concept's number after a space.
-fn report_concept(c: usize) {
-    io::write_all(STDOUT_FILENO, b" ");
-    io::print_decimal(STDOUT_FILENO, c as u64);
+fn report_concept(rt: &impl Print, c: usize) -> io::Result<()> {
+    print!(rt; " {c}")
 }
 
 // Writes the concepts below n that a row marks.
-fn report_row(row: &[u8], n: usize) {
-    let mut c = 0;
-    while c < n {
+fn report_row(rt: &impl Print, row: &[u8], n: usize) -> io::Result<()> {
+    for c in 0..n {
         if rows::has(row, c) {
-            report_concept(c);
+            report_concept(rt, c)?;
         }
-        c += 1;
     }
+    Ok(())
 }
 
 // Writes the concepts that occur by the axioms in force, marked in a row that has room for 512.
-fn report_occurs(b: &[u8], store: &[u8], row: &mut [u8])
+fn report_occurs(rt: &impl Print, b: &[u8], store: &[u8], row: &mut [u8]) -> io::Result<()>
     requires { Clear b.now store.now × (64 ≤ length row.old) }
 {
     let n = catalogue::concepts(b);
     let w = (n + 7) / 8;
     store::mark_occurring(b, store, &mut row[..w]);
-    io::write_all(STDOUT_FILENO, b"occurs");
-    report_row(row, n);
-    io::write_all(STDOUT_FILENO, b"\n");
+    rt.write_all(b"occurs")?;
+    report_row(rt, row, n)?;
+    rt.write_all(b"\n")
 }
 
 // Puts questions 13 and 14 to a store that is long enough.
-fn report_store(b: &[u8], store: &[u8])
+fn report_store(rt: &impl Print, b: &[u8], store: &[u8]) -> io::Result<()>
     requires { Sized b.now store.now }
 {
     if !store::spare_clear(b, store) {
-        report_refused(13);
-        return;
+        return report_refused(rt, 13);
     }
     if !store::axioms_in_limit(b, store) {
-        report_refused(14);
-        return;
+        return report_refused(rt, 14);
     }
     let mut row = [255u8; 64];
-    report_occurs(b, store, &mut row);
+    report_occurs(rt, b, store, &mut row)
 }
 
 // Puts questions 10 to 14 to a store, and to a work space and a list of these lengths.
-fn report_lengths(b: &[u8], store: &[u8], work: usize, list: usize)
+fn report_lengths(
+    rt: &impl Print,
+    b: &[u8],
+    store: &[u8],
+    work: usize,
+    list: usize,
+) -> io::Result<()>
     requires { WellFormed b.now }
 {
     if !store::store_fits(b, store.len()) {
-        report_refused(10);
+        report_refused(rt, 10)
     } else if !store::work_fits(b, work) {
-        report_refused(11);
+        report_refused(rt, 11)
     } else if !store::list_fits(b, list) {
-        report_refused(12);
+        report_refused(rt, 12)
     } else {
-        report_store(b, store);
+        report_store(rt, b, store)
     }
 }
 
 // The same after questions 1 to 9.
-fn report(b: &[u8], store: &[u8], work: usize, list: usize) {
+fn report(rt: &impl Print, b: &[u8], store: &[u8], work: usize, list: usize) -> io::Result<()> {
     match catalogue::check(b) {
-        Verdict::Accepted => report_lengths(b, store, work, list),
-        Verdict::Refused(number, _) => report_refused(number),
+        Verdict::Accepted => report_lengths(rt, b, store, work, list),
+        Verdict::Refused(number, _) => report_refused(rt, number),
     }
 }
 
 // A store, and then one byte short, a work space and a list one byte short.
-fn report_short(b: &[u8], store: &[u8])
+fn report_short(rt: &impl Print, b: &[u8], store: &[u8]) -> io::Result<()>
     requires { 34 ≤ length store.now }
 {
-    report(b, store, 28, 14);
-    report(b, &store[..34], 28, 14);
-    report(b, store, 27, 14);
-    report(b, store, 28, 13);
+    report(rt, b, store, 28, 14)?;
+    report(rt, b, &store[..34], 28, 14)?;
+    report(rt, b, store, 27, 14)?;
+    report(rt, b, store, 28, 13)
 }
 
 // W1 with its axioms, and then with the axiom (1, 5) withdrawn.
-fn report_w1() {
+fn report_w1(rt: &impl Print) -> io::Result<()> {
     let b =
         b"\x50\x00\x07\x00\x03\x00\x00\x00\x01\x00\x03\x00\x14\x00\x3e\x00\x3e\x00\x44\x00\x00\x00\x00\x00\x00\x00\x00\x00\x00\x00\x00\x00\x00\x00\x00\x00\x00\x00\x00\x00\x00\x00\x00\x00\x03\x00\x00\x00\x01\x00\x03\x00\x01\x00\x02\x00\x03\x00\x02\x00\x02\x00\x00\x00\x01\x00\x02\x00\x00\x00\x04\x00\x01\x00\x05\x00\x06\x00\x03\x00";
     report_short(
+        rt,
         b,
         b"\x10\x20\x00\x00\x00\x00\x08\x00\x00\x00\x00\x00\x00\x00\x00\x00\x00\x00\x00\x00\x00\x00\x00\x00\x00\x00\x00\x00\x00\x00\x00\x00\x00\x00\x00",
-    );
+    )?;
     report(
+        rt,
         b,
         b"\x10\x00\x00\x00\x00\x00\x08\x00\x00\x00\x00\x00\x00\x00\x00\x00\x00\x00\x00\x00\x00\x00\x00\x00\x00\x00\x00\x00\x00\x00\x00\x00\x00\x00\x00",
         28,
         14,
-    );
+    )
 }
 
 // W9: bit 7 of the first axiom row of seven concepts, then of the last link row; and bit 7 of every row of eight concepts.
-fn report_w9() {
+fn report_w9(rt: &impl Print) -> io::Result<()> {
     let b =
         b"\x50\x00\x07\x00\x03\x00\x00\x00\x01\x00\x03\x00\x14\x00\x3e\x00\x3e\x00\x44\x00\x00\x00\x00\x00\x00\x00\x00\x00\x00\x00\x00\x00\x00\x00\x00\x00\x00\x00\x00\x00\x00\x00\x00\x00\x03\x00\x00\x00\x01\x00\x03\x00\x01\x00\x02\x00\x03\x00\x02\x00\x02\x00\x00\x00\x01\x00\x02\x00\x00\x00\x04\x00\x01\x00\x05\x00\x06\x00\x03\x00";
     report(
+        rt,
         b,
         b"\x90\x20\x00\x00\x00\x00\x08\x00\x00\x00\x00\x00\x00\x00\x00\x00\x00\x00\x00\x00\x00\x00\x00\x00\x00\x00\x00\x00\x00\x00\x00\x00\x00\x00\x00",
         28,
         14,
-    );
+    )?;
     report(
+        rt,
         b,
         b"\x10\x20\x00\x00\x00\x00\x08\x00\x00\x00\x00\x00\x00\x00\x00\x00\x00\x00\x00\x00\x00\x00\x00\x00\x00\x00\x00\x00\x00\x00\x00\x00\x00\x00\x80",
         28,
         14,
-    );
+    )?;
     report(
+        rt,
         b"\x44\x00\x08\x00\x00\x00\x00\x00\x00\x00\x00\x00\x14\x00\x44\x00\x44\x00\x44\x00\x00\x00\x00\x00\x00\x00\x00\x00\x00\x00\x00\x00\x00\x00\x00\x00\x00\x00\x00\x00\x00\x00\x00\x00\x00\x00\x00\x00\x00\x00\x00\x00\x00\x00\x00\x00\x00\x00\x00\x00\x00\x00\x00\x00\x00\x00\x00\x00",
         b"\x80\x80\x80\x80\x80\x80\x80\x80\x80\x80\x80\x80\x80\x80\x80\x80",
         8,
         16,
-    );
+    )
 }
 
 // Concept 4 is ∃R.3, 3 is ∃R.2, 2 is 0 ⊓ 1, and only (4, 4) is in force.
-fn report_nested() {
+fn report_nested(rt: &impl Print) -> io::Result<()> {
     report(
+        rt,
         b"\x38\x00\x06\x00\x01\x00\x00\x00\x00\x00\x00\x00\x14\x00\x38\x00\x38\x00\x38\x00\x00\x00\x00\x00\x00\x00\x00\x00\x00\x00\x00\x00\x02\x00\x00\x00\x01\x00\x03\x00\x00\x00\x02\x00\x03\x00\x00\x00\x03\x00\x00\x00\x00\x00\x00\x00",
         b"\x00\x00\x00\x00\x10\x00\x00\x00\x00\x00\x00\x00\x00\x00\x00\x00\x00\x00",
         12,
         12,
-    );
+    )
 }
 
 // Puts the first k axioms between 65 concepts into a store, by left side and then right.
@@ -154,7 +162,7 @@ fn fill(store: &mut [u8], k: usize)
 }
 
 // A store with k axioms between 65 atomic concepts.
-fn report_many(k: usize)
+fn report_many(rt: &impl Print, k: usize) -> io::Result<()>
     requires { k ≤ 4225 }
 {
     let mut b = [0u8; 410];
@@ -170,13 +178,13 @@ fn report_many(k: usize)
     b[19] = 1;
     let mut store = [0u8; 1170];
     fill(&mut store, k);
-    report(&b, &store, 585, 130);
+    report(rt, &b, &store, 585, 130)
 }
 
-fn main() {
-    report_w1();
-    report_w9();
-    report_nested();
-    report_many(4096);
-    report_many(4097);
+fn main(rt: HostRuntime) -> io::Result<()> {
+    report_w1(&rt)?;
+    report_w9(&rt)?;
+    report_nested(&rt)?;
+    report_many(&rt, 4096)?;
+    report_many(&rt, 4097)
 }

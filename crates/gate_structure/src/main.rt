@@ -1,10 +1,12 @@
 // Builds catalogues and writes what contains what, what reaches what, and numbers read and copied by a reader. The first shares parts
 // so much that a recursion without marks would make over 2^350 calls; the others have role inclusions in a falling chain and in a cycle.
+#![tactic(auto)]
+
 ghost use Rattle.std.specs.Prelude.{◌+◌, ◌≤◌, ◌<◌, length};
 
 use catalogue::{Concept, Inclusion, Verdict};
-use libc::STDOUT_FILENO;
 use reader::{copy_numbers, number_after, put_number};
+use std::io;
 use structure::Square;
 
 // Writes the total and the counts of a catalogue with no compositions and no axioms.
@@ -105,90 +107,82 @@ fn put_catalogue(out: &mut [u8], n: usize, m: usize, path: &[u8]) -> usize
 }
 
 // Writes two numbers with a word between them.
-fn say(i: usize, word: &[u8], j: usize) {
-    io::print_decimal(STDOUT_FILENO, i as u64);
-    io::write_all(STDOUT_FILENO, word);
-    io::print_decimal(STDOUT_FILENO, j as u64);
+fn say(rt: &impl Print, i: usize, word: &[u8], j: usize) -> io::Result<()> {
+    rt.print(i)?;
+    rt.write_all(word)?;
+    rt.print(j)
 }
 
 // Writes the number of the question that refuses a catalogue.
-fn report_refused(number: usize) {
-    io::write_all(STDOUT_FILENO, b"refused ");
-    io::print_decimal(STDOUT_FILENO, number as u64);
-    io::write_all(STDOUT_FILENO, b"\n");
+fn report_refused(rt: &impl Print, number: usize) -> io::Result<()> {
+    println!(rt; "refused {number}")
 }
 
 // Writes whether concept i of a catalogue contains concept j.
-fn report_contains(b: &[u8], i: usize, j: usize) {
+fn report_contains(rt: &impl Print, b: &[u8], i: usize, j: usize) -> io::Result<()> {
     match catalogue::check(b) {
         Verdict::Accepted => {
             let n = catalogue::concepts(b);
             if i < n {
-                say(i, b" contains ", j);
+                say(rt, i, b" contains ", j)?;
                 let mut row = [0u8; Concept::MAX / 8];
                 if structure::contains(b, i, j, &mut row) {
-                    io::write_all(STDOUT_FILENO, b": yes\n");
+                    rt.write_all(b": yes\n")?;
                 } else {
-                    io::write_all(STDOUT_FILENO, b": no\n");
+                    rt.write_all(b": no\n")?;
                 }
             }
+            Ok(())
         }
-        Verdict::Refused(number, _) => report_refused(number),
+        Verdict::Refused(number, _) => report_refused(rt, number),
     }
 }
 
 // Writes a number after others.
-fn report_next(n: usize) {
-    io::write_all(STDOUT_FILENO, b" ");
-    io::print_decimal(STDOUT_FILENO, n as u64);
+fn report_next(rt: &impl Print, n: usize) -> io::Result<()> {
+    print!(rt; " {n}")
 }
 
 // Writes the roles that role r reaches.
-fn report_row(square: &Square, m: usize, r: usize)
+fn report_row(rt: &impl Print, square: &Square, m: usize, r: usize) -> io::Result<()>
     requires { (m ≤ 16) × (r < m) }
 {
-    io::print_decimal(STDOUT_FILENO, r as u64);
-    io::write_all(STDOUT_FILENO, b" reaches");
-    let mut s = 0;
-    while s < m {
+    print!(rt; "{r} reaches")?;
+    for s in 0..m {
         if structure::reaches(square, r, s) {
-            report_next(s);
+            report_next(rt, s)?;
         }
-        s += 1;
     }
-    io::write_all(STDOUT_FILENO, b"\n");
+    rt.write_all(b"\n")
 }
 
 // Writes each role of a square below m with the roles that it reaches.
-fn report_square(square: &Square, m: usize)
+fn report_square(rt: &impl Print, square: &Square, m: usize) -> io::Result<()>
     requires { m ≤ 16 }
 {
-    let mut r = 0;
-    while r < m {
-        report_row(square, m, r);
-        r += 1;
+    for r in 0..m {
+        report_row(rt, square, m, r)?;
     }
+    Ok(())
 }
 
 // Writes the role reach of a catalogue.
-fn report_reach(b: &[u8]) {
+fn report_reach(rt: &impl Print, b: &[u8]) -> io::Result<()> {
     match catalogue::check(b) {
         Verdict::Accepted => {
             let square = structure::close_roles(b);
-            report_square(&square, catalogue::roles(b));
+            report_square(rt, &square, catalogue::roles(b))
         }
-        Verdict::Refused(number, _) => report_refused(number),
+        Verdict::Refused(number, _) => report_refused(rt, number),
     }
 }
 
 // Writes the number that a reader finds some bytes after a position.
-fn report_number(b: &[u8], at: usize, size: usize)
+fn report_number(rt: &impl Print, b: &[u8], at: usize, size: usize) -> io::Result<()>
     requires { at + size + 1 < length b.now }
 {
-    say(at, b" and ", size);
-    io::write_all(STDOUT_FILENO, b" bytes on: ");
-    io::print_decimal(STDOUT_FILENO, number_after(b, at, size) as u64);
-    io::write_all(STDOUT_FILENO, b"\n");
+    say(rt, at, b" and ", size)?;
+    println!(rt; " bytes on: {}", number_after(b, at, size))
 }
 
 // A byte as a number.
@@ -197,76 +191,74 @@ fn wide(x: u8) -> usize {
 }
 
 // Writes bytes on a line.
-fn report_bytes(bytes: &[u8; 8]) {
-    let mut k = 0;
-    while k < 8 {
-        report_next(wide(bytes[k]));
-        k += 1;
+fn report_bytes(rt: &impl Print, bytes: &[u8; 8]) -> io::Result<()> {
+    for byte in bytes {
+        report_next(rt, wide(*byte))?;
     }
-    io::write_all(STDOUT_FILENO, b"\n");
+    rt.write_all(b"\n")
 }
 
 // The counts of concepts and roles and an offset, and two offsets copied between bytes that stay.
-fn report_reader(b: &[u8])
+fn report_reader(rt: &impl Print, b: &[u8]) -> io::Result<()>
     requires { 20 ≤ length b.now }
 {
-    report_number(b, 0, 2);
-    report_number(b, 2, 2);
-    report_number(b, 12, 2);
-    report_number(b, 12, 0);
+    report_number(rt, b, 0, 2)?;
+    report_number(rt, b, 2, 2)?;
+    report_number(rt, b, 12, 2)?;
+    report_number(rt, b, 12, 0)?;
     let mut copy = [7u8; 8];
     copy_numbers(b, 12, &mut copy, 2, 2);
-    io::write_all(STDOUT_FILENO, b"copied:");
-    report_bytes(&copy);
+    rt.write_all(b"copied:")?;
+    report_bytes(rt, &copy)
 }
 
 // Every concept is in the last, by over 2^350 ways down to 1 and 2, and by one to 0: through 510, in which no other is.
-fn report_shared_parts(space: &mut [u8])
+fn report_shared_parts(rt: &impl Print, space: &mut [u8]) -> io::Result<()>
     requires { 4096 ≤ length space.old }
 {
     let alone = [0u8];
     let n = put_catalogue(space, 512, 2, &alone);
     let b = &space[..n];
-    report_reader(b);
-    report_contains(b, 511, 1);
-    report_contains(b, 511, 2);
-    report_contains(b, 511, 0);
-    report_contains(b, 510, 0);
-    report_contains(b, 510, 1);
-    report_contains(b, 509, 0);
-    report_contains(b, 509, 1);
-    report_contains(b, 1, 511);
-    report_contains(b, 511, 511);
+    report_reader(rt, b)?;
+    report_contains(rt, b, 511, 1)?;
+    report_contains(rt, b, 511, 2)?;
+    report_contains(rt, b, 511, 0)?;
+    report_contains(rt, b, 510, 0)?;
+    report_contains(rt, b, 510, 1)?;
+    report_contains(rt, b, 509, 0)?;
+    report_contains(rt, b, 509, 1)?;
+    report_contains(rt, b, 1, 511)?;
+    report_contains(rt, b, 511, 511)
 }
 
 // Role reach with an inclusion of each role of a path in the next.
-fn report_path(space: &mut [u8], path: &[u8])
+fn report_path(rt: &impl Print, space: &mut [u8], path: &[u8]) -> io::Result<()>
     requires in_bounds { 4096 ≤ length space.old }
     requires in_bounds_2 { (1 ≤ length path.now) × (length path.now ≤ 64) }
 {
     let n = put_catalogue(space, 1, 16, path);
-    report_reach(&space[..n]);
+    report_reach(rt, &space[..n])
 }
 
 // From role 15 down to 0, one by one.
-fn report_falling(space: &mut [u8])
+fn report_falling(rt: &impl Print, space: &mut [u8]) -> io::Result<()>
     requires { 4096 ≤ length space.old }
 {
     let path = [15u8, 14, 13, 12, 11, 10, 9, 8, 7, 6, 5, 4, 3, 2, 1, 0];
-    report_path(space, &path);
+    report_path(rt, space, &path)
 }
 
 // From role 15 down to 0 by threes, and up to 15 again.
-fn report_cycle(space: &mut [u8])
+fn report_cycle(rt: &impl Print, space: &mut [u8]) -> io::Result<()>
     requires { 4096 ≤ length space.old }
 {
     let path = [15u8, 12, 9, 6, 3, 0, 15];
-    report_path(space, &path);
+    report_path(rt, space, &path)
 }
 
-fn main() {
-    let mut space = io::large_buffer();
-    report_shared_parts(&mut space);
-    report_falling(&mut space);
-    report_cycle(&mut space);
+fn main(rt: HostRuntime) -> io::Result<()> {
+    let mut space = [0u8; 65536];
+    report_shared_parts(&rt, &mut space)?;
+    report_falling(&rt, &mut space)?;
+    report_cycle(&rt, &mut space)
 }

@@ -1,4 +1,6 @@
 // The listing program, on standard input. Its run in the gate: W1.
-fn main() {
-    listings::run(libc::STDIN_FILENO);
+#![tactic(auto)]
+
+fn main(rt: HostRuntime) {
+    listings::run(&rt, &mut rt.stdin());
 }

@@ -1,10 +1,15 @@
 // The body of the listing program (document 01, Examples), for the programs that run it.
-ghost use Rattle.std.specs.Prelude.{◌≡◌, ◌≤◌, length};
+#![tactic(auto)]
+
+ghost use Rattle.std.specs.Prelude.{◌≡◌, ◌≤◌, ◌<◌, length, take, IfOk, OnOk, MatchResult};
+ghost use Rattle.std.specs.Io.{ReadsAtMost};
+ghost use Rattle.std.specs.Io.KnownBytes.{Appends, Consumes, IsAtEnd};
 ghost use Rattle.text.specs.Text.{Appended};
-ghost use Rattle.listings.specs.Program.{program_text, Ran};
+ghost use Rattle.listings.specs.Program.{program_text, Ran, Lists, FallsShort};
 
 use classification::{Classified, classify};
-use libc::{STDERR_FILENO, STDOUT_FILENO};
+use std::io;
+use std::io::{Read, Write};
 use text::{listing_text, refusal_text};
 
 // What a run of the program came to: a text of so many bytes, or an input that could not be read.
@@ -33,38 +38,73 @@ fn text_buffer() -> [u8; 2097152]
     [0u8; 2097152]
 }
 
-// Writes the program's text of an input, or says on standard error that it could not.
-fn list(input: &[u8]) -> Listing
+// Writes the program's text of an input, and says how many bytes it has; that is the error where it could not be written.
+fn list<W: Write>(input: &[u8], out: &mut W) -> Result<usize, usize>
     requires { length input.now ≤ 65536 }
-    ensures { Ran result }
+    ensures written { OnOk result (Appends (W.contents out.old) (W.contents out.new) (program_text input.now)) }
+    ensures long { MatchResult result (λ n. n ≡ length (program_text input.now)) (λ n. n ≡ length (program_text input.now)) }
 {
-    let mut store = io::large_buffer();
-    let mut work = io::large_buffer();
-    let mut out = text_buffer();
-    let end = program_text(input, &mut store, &mut work, &mut out);
-    if !io::write_all(STDOUT_FILENO, &out[..end]) {
-        io::write_all(STDERR_FILENO, b"listing: the output could not be written\n");
+    let mut store = [0u8; 65536];
+    let mut work = [0u8; 65536];
+    let mut text = text_buffer();
+    let end = program_text(input, &mut store, &mut work, &mut text);
+    match out.write_all(&text[..end]) {
+        Ok(()) => Ok(end),
+        Err(_) => Err(end),
     }
-    Listing::Text(end)
 }
 
-// Whether an input has ended: a read then gives nothing, and one that fails gives -1.
-fn input_ended(file: i32) -> bool {
-    let mut more = [0u8; 1];
-    libc::read(file, &mut more) == 0
+// Reads to the end of the input, or until the buffer is full, and says how many bytes it read.
+fn read_full<R: Read>(input: &mut R, buffer: &mut [u8]) -> io::Result<usize>
+    ensures within { ReadsAtMost result buffer.new }
+    ensures bytes { IfOk result (λ n. Consumes (R.remaining input.old) (R.remaining input.new) (take n buffer.new)) }
+    ensures end { IfOk result (λ n. n < length buffer.new → IsAtEnd (R.remaining input.new)) }
+{
+    let mut done = 0;
+    while done < buffer.len() {
+        let n = input.read(&mut buffer[done..])?;
+        if n == 0 {
+            break;
+        }
+        done += n;
+    }
+    Ok(done)
 }
 
-// Lists the catalogue that a descriptor gives, of which it reads 65,536 bytes at most: a longer input is refused by these alone.
-pub fn run(file: i32) -> Listing
+// Why no text was put out: the input could not be read, or the text of so many bytes could not be written.
+#[derive(Clone, Copy)]
+pub enum Shortfall {
+    Unread,
+    Unwritten(usize),
+}
+
+// Lists the catalogue that a reader gives, of which it reads 65,536 bytes at most: a longer input is refused by these alone. Says how many bytes the text has.
+pub fn list_input<R: Read, W: Write>(input: &mut R, out: &mut W) -> Result<usize, Shortfall>
+    ensures { MatchResult result (λ n. Lists (R.remaining input.old) (R.remaining input.new) (W.contents out.old) (W.contents out.new) n) FallsShort }
+{
+    let mut bytes = [0u8; 65536];
+    match read_full(input, &mut bytes) {
+        Ok(n) => match list(&bytes[..n], out) {
+            Ok(end) => Ok(end),
+            Err(end) => Err(Shortfall::Unwritten(end)),
+        },
+        Err(_) => Err(Shortfall::Unread),
+    }
+}
+
+// The same on the standard output. On standard error it says that the input could not be read, or the text not be written.
+pub fn run<R: Read>(rt: &(impl Print + Eprint), file: &mut R) -> Listing
     ensures { Ran result }
 {
-    let mut input = io::large_buffer();
-    let n = io::read_full(file, &mut input);
-    if n < 65536 {
-        if !input_ended(file) {
-            io::write_all(STDERR_FILENO, b"listing: the input could not be read\n");
-            return Listing::Unread;
+    match list_input(file, &mut io::writer(rt)) {
+        Ok(end) => Listing::Text(end),
+        Err(Shortfall::Unwritten(end)) => {
+            let _ = rt.eprintln("listing: the output could not be written");
+            Listing::Text(end)
+        }
+        Err(Shortfall::Unread) => {
+            let _ = rt.eprintln("listing: the input could not be read");
+            Listing::Unread
         }
     }
-    list(&input[..n])
 }

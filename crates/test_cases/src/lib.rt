@@ -1,13 +1,32 @@
 // What programs share that run the cases of their input: the input's numbers, the lesser of two, the ends of a case's parts, buffers filled
 // before a call, and answers in words, numbers and checksums.
+#![tactic(auto)]
+
 pub mod sequences; // sequences.rt: bytes and entries in a row
 
 ghost use Rattle.std.specs.Prelude.{◌≡◌, ◌+◌, ◌≤◌, ◌<◌, min, length, replicate};
+ghost use Rattle.std.specs.Io.{ReadsAtMost};
 ghost use Rattle.catalogue.specs.Words as words;
 
 use checksum::fnv1a;
-use libc::STDOUT_FILENO;
 pub use sequences::{say_digits, say_reply};
+use std::io;
+use std::io::Read;
+
+// Reads to the end of the input, or until the buffer is full, and says how many bytes it read.
+pub fn read_full<R: Read>(input: &mut R, buffer: &mut [u8]) -> io::Result<usize>
+    ensures { ReadsAtMost result buffer.new }
+{
+    let mut done = 0;
+    while done < buffer.len() {
+        let n = input.read(&mut buffer[done..])?;
+        if n == 0 {
+            break;
+        }
+        done += n;
+    }
+    Ok(done)
+}
 
 // The number at a byte of the input, in two bytes.
 pub fn short_at(text: &[u8], at: usize) -> usize
@@ -52,19 +71,19 @@ pub fn fill(buffer: &mut [u8], byte: u8)
 }
 
 // Writes a word and a number.
-pub fn say(word: &[u8], number: usize) {
-    io::write_all(STDOUT_FILENO, word);
-    io::print_decimal(STDOUT_FILENO, number as u64);
+pub fn say(rt: &impl Print, word: &[u8], number: usize) -> io::Result<()> {
+    rt.write_all(word)?;
+    rt.print(number)
 }
 
 // Writes a refusal.
-pub fn say_refused(number: usize, record: usize) {
-    say(b"refused ", number);
-    say(b" ", record);
+pub fn say_refused(rt: &impl Print, number: usize, record: usize) -> io::Result<()> {
+    say(rt, b"refused ", number)?;
+    say(rt, b" ", record)
 }
 
 // Writes a word and the checksum of some bytes.
-pub fn say_checksum(word: &[u8], bytes: &[u8]) {
-    io::write_all(STDOUT_FILENO, word);
-    io::print_decimal(STDOUT_FILENO, fnv1a(bytes));
+pub fn say_checksum(rt: &impl Print, word: &[u8], bytes: &[u8]) -> io::Result<()> {
+    rt.write_all(word)?;
+    rt.print(fnv1a(bytes))
 }

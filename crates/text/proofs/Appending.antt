@@ -1,11 +1,12 @@
 -- Laws of texts appended to a buffer.
-use Prim.Native.Nat.{ℕ, ◌+◌, ◌-◌, ◌≤◌}
+use Prim.Native.Nat.{ℕ, ◌+◌, ◌≤◌}
 use native.Mathlib.Omega.{arith}
 use native.Mathlib.Nat.{add_assoc}
 use mathlib.Core.Path.{◌≡◌, sym, ap, ap₂, ◌∙◌}
 use mathlib.Core.List.{List, [], ◌++◌, append_assoc, append-nil}
-use lib.ListN.{length, take, drop, length-append, length-drop, take-append-drop, drop_of_length-le}
-use lib.Seq.{length-take-le, take_all, take-length, take_at, drop-append-add, drop-drop}
+use lib.ListN.{length, take, drop, length-append, length-drop, take-append-drop}
+use lib.Seq.{length-take-le, take_at, drop-append-add, drop-drop}
+use borrow.Rule.Slice.PartMut.{put_mid}
 use Rattle.io.specs.Counts.{IsPrefixLen}
 use Rattle.text.specs.Text.{overwritten, Appended}
 
@@ -31,19 +32,12 @@ overwritten_nothing out at =
     let none : at + 0 ≡ at = omega arith in
     ap₂ (λ (f : List ℕ) (k : ℕ). f ++ drop k out) (append-nil (take at out)) none ∙ take-append-drop at out
 
--- A text copied to the front of the part from a place on.
-pub overwritten_part : (out : List ℕ) (at : ℕ) (text : List ℕ)
-    → take at out ++ ((take (length text) text ++ drop (length text) (take (length out - at) (drop at out))) ++ drop (length out - at) (drop at out)) ≡ overwritten out at text
+-- A text copied over the part from a place on that is as long.
+pub overwritten_part : (out : List ℕ) (at k : ℕ) (text part : List ℕ) → k ≡ length text → part ≡ text → put_mid at k out part ≡ overwritten out at text
 unfolding overwritten
-overwritten_part out at text =
-    let part : List ℕ = drop at out in
-    let k : ℕ = length out - at in
-    let n : ℕ = length text in
-    let long : length part ≤ k = omega (arith, length-drop at out) in
-    ap₂ (λ (p r : List ℕ). take at out ++ ((take n text ++ drop n p) ++ r)) (take_all k part long) (drop_of_length-le part long)
-    ∙ ap (λ (l : List ℕ). take at out ++ l) (append-nil (take n text ++ drop n part))
-    ∙ ap₂ (λ (s r : List ℕ). take at out ++ (s ++ r)) (take-length text) (drop-drop n at out)
-    ∙ sym (append_assoc (take at out) text (drop (at + n) out))
+overwritten_part out at k text part e p =
+    ap₂ (λ (p r : List ℕ). take at out ++ (p ++ r)) p (drop-drop k at out ∙ ap (λ (n : ℕ). drop (at + n) out) e)
+    ∙ sym (append_assoc (take at out) text (drop (at + length text) out))
 
 -- Two texts, one after the other, are their concatenation.
 pub overwritten-append : (out : List ℕ) (at : ℕ) (s t : List ℕ) → at ≤ length out → overwritten (overwritten out at s) (at + length s) t ≡ overwritten out at (s ++ t)

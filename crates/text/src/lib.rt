@@ -1,4 +1,6 @@
 // The listing program's texts, written into a buffer (document 01, Examples).
+#![tactic(auto)]
+
 pub mod lines; // lines.rt: the lines of pairs, and the text of an accepted catalogue
 
 ghost use Rattle.std.specs.Prelude.{◌++◌, ◌+◌, ◌≤◌, length};
@@ -11,7 +13,9 @@ pub fn put_text(out: &mut [u8], at: usize, text: &[u8]) -> usize
     requires { at + length text.now ≤ length out.old }
     ensures { Appended text.now out.old at result out.new }
 {
-    at + bytes::copy(text, &mut out[at..])
+    let end = at + text.len();
+    out[at..end].copy_from_slice(text);
+    end
 }
 
 // Appends a number in decimal.
