@@ -233,6 +233,8 @@ classify_turn_lem b F store t x request = go t.call.request t.answer x.contract 
         → Known b F store t
     go classify (classified a) (classifies c) e f = classify_known b F store t x a request f c
     go (change withdrawn added) (changed a) (changes c) e f = let z : ◌≡◌ {A = ℕ} 0 1 = cc in absurd (omega arith)
+    go classify (changed a) m e f = elim m [ ]
+    go (change withdrawn added) (classified a) m e f = elim m [ ]
 
 pub any_turn : (b : List ℕ) (F : Axioms) (store : List ℕ) → FreshStore b F store → (t : Turn) → RunsOn store t → Known b F store t
 any_turn b F store u t x = go t.call.request t.answer x.contract refl refl
@@ -241,3 +243,5 @@ any_turn b F store u t x = go t.call.request t.answer x.contract refl refl
         → Known b F store t
     go classify (classified a) (classifies c) e f = classify_known b F store t x a e f c
     go (change withdrawn added) (changed a) (changes c) e f = change_known b F store u t x withdrawn added a e f c
+    go classify (changed a) m e f = elim m [ ]
+    go (change withdrawn added) (classified a) m e f = elim m [ ]

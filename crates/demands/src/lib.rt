@@ -1,1 +1,3 @@
 // What several calls give together, proved about their contracts.
+
+#![tactic(auto)]

@@ -1,1 +1,3 @@
 // Moves of W1, proved about the definitions.
+
+#![tactic(auto)]

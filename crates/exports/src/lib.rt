@@ -1,4 +1,6 @@
 // The calls for C and Rust. The crate exports_c gives each its plain name for C.
+#![tactic(auto)]
+
 ghost use Rattle.replies.specs.Check.{CheckExported};
 ghost use Rattle.replies.specs.Classify.{ClassifyExported};
 ghost use Rattle.replies.specs.Change.{ChangeExported};
@@ -91,12 +93,7 @@ pub fn girvotal_list(
 }
 
 // Where a concept's row stands in the store.
-pub fn girvotal_row(
-    catalogue: &[u8],
-    concept: usize,
-    store: &[u8],
-    answer: &mut [u64],
-) -> usize
+pub fn girvotal_row(catalogue: &[u8], concept: usize, store: &[u8], answer: &mut [u64]) -> usize
     ensures { RowExported catalogue.now concept store.now answer.old result answer.new }
 {
     if is_short(answer) {

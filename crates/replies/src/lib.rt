@@ -1,4 +1,6 @@
 // What the calls for C and Rust reply: a number returned and four entries written, and the contract of each call.
+#![tactic(auto)]
+
 ghost use Rattle.std.specs.Prelude.{◌≡◌, ◌≤◌, ◌<◌, ◌^◌, length};
 ghost use Rattle.replies.specs.Answers.{returned, answered, TellsShort, Given};
 ghost use Rattle.replies.specs.Check.{check_reply};

@@ -1,1 +1,3 @@
 // The worked examples, proved about the definitions.
+
+#![tactic(auto)]

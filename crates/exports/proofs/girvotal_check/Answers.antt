@@ -1,0 +1,20 @@
+-- `exports::girvotal_check` meets its contract.
+use Rattle.replies.proofs.Exporting.{exported_short, exported_long}
+use Rattle.replies.proofs.Refusals.{check_fits}
+use Rattle.exports.proofs.girvotal_check.Goals as goal
+
+pub returns-then-is_short : goal.returns-then-is_short
+returns-then-is_short c = exported_short (c.is_short.ensures.short c.if-is_short.true)
+
+pub give-requires : goal.give-requires
+give-requires c =
+    let called = c.measure-sizes in
+    let q = c.args in
+    let long = c.is_short.ensures.long c.if-is_short.false in
+    (long, rw (c.check_reply.ensures, called.ensures) (check_fits q.catalogue.now))
+
+pub returns : goal.returns
+returns c =
+    let called = c.measure-sizes in
+    let long = c.is_short.ensures.long c.if-is_short.false in
+    exported_long called.result long called.ensures c.check_reply.ensures c.give.ensures
