@@ -1,6 +1,5 @@
 -- `read_full` meets its contract: what one read takes follows what was taken before.
-use Rattle.std.proofs.Common.{ℕ, ◌-◌, ◌≤◌, List, length, rules, sym, subst}
-use borrow.Rule.Slice.PartMut.{put_mid}
+use Rattle.std.proofs.Common.{ℕ, ◌≤◌, List, length, rules, sym, subst}
 use Rattle.std.specs.Io.KnownBytes.{Consumes}
 use Rattle.std.proofs.KnownBytes.{Consumes-trans}
 use Rattle.listings.proofs.Buffers.{taken_more}

@@ -1,7 +1,6 @@
 -- `first_fault`: every record passed so far is right, and the loop is left at the first that is not.
 use native.Mathlib.Omega.{arith}
 use mathlib.Core.Path.{sym, ◌∙◌}
-use mathlib.Core.Bool.{true}
 use borrow.Author.Count.{below_more}
 use borrow.Author.Rules.{rules}
 use Rattle.catalogue.proofs.FirstFault.{first_is}
