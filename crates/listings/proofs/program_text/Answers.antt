@@ -15,7 +15,7 @@ returns-in-Refused c =
     let s = c.args in
     let called = c.classify-answer in
     subst (λ (t : List ℕ). Appended t s.out.now 0 c.refusal_text.result c.refusal_text.new.out)
-    (sym (refused_text s.input.now s.store.now s.work.now called.result called.new.store called.new.work c.requires.0 c.requires.1 called.ensures c.in-Refused.number c.in-Refused.field-1 c.in-Refused.is))
+    (sym (refused_text s.input.now s.store.now s.work.now called.result called.new.store called.new.work c.requires.0 c.requires.1 called.ensures c.in-Refused.number _ c.in-Refused.is))
     c.refusal_text.ensures
 
 pub returns-in-Done : goal.returns-in-Done
