@@ -1,3 +1,4 @@
+pub mod Computed
 pub mod Moves
 pub mod Calls
 pub mod Table

@@ -4,18 +4,16 @@ use mathlib.Core.List.{[], ◌∷◌}
 use Rattle.catalogue.specs.Examples.{w1}
 use Rattle.catalogue.specs.Outcome.{accepted}
 use Rattle.catalogue.proofs.Examples.{w1_well_formed}
-use Rattle.derivation.specs.Finite.{some}
 use Rattle.rules.specs.Axioms.{InRange}
-use Rattle.store.specs.Written.{rising}
-use Rattle.change_contract.proofs.Members.{on_list}
 use Rattle.examples_common.specs.Entries.{Classified, Changed}
-use Rattle.examples_common.specs.Computed.{pairs_of, links_of, rows_of, removed_of, returned_of, gained_of, broken_of, gaining_of}
+use Rattle.examples_common.specs.Computed.{pairs_of, links_of, rows_of}
 use Rattle.examples_w1_w6.specs.Table.{axioms1}
 use Rattle.examples_w1_moves.specs.Table.{moved1, moved2, moved3, moved4, unmoved}
 use Rattle.examples_common.proofs.Classified.{classified}
-use Rattle.examples_common.proofs.Changed.{Computes, changed}
+use Rattle.examples_common.proofs.Changed.{changed}
 use Rattle.examples_common.proofs.Editing.{lists_asked, changed_in_range}
 use Rattle.examples_w1_w6.proofs.W1.{range1}
+use Rattle.examples_w1_moves.proofs.Computed.{move1_computed, move2_computed, move3_computed, move4_computed, empty_computed}
 
 -- ---- W1, (1,5) out and (0,6) in
 
@@ -25,10 +23,6 @@ move1_asks = refl
 
 move1_range : InRange w1 moved1
 move1_range = changed_in_range w1 (1 ∷ 0 ∷ 5 ∷ 0 ∷ []) (0 ∷ 0 ∷ 6 ∷ 0 ∷ []) axioms1 move1_asks range1
-
-move1_computed : Computes w1 axioms1 moved1 10 3 0 (0 ∷ 1 ∷ 4 ∷ 5 ∷ []) [] (0 ∷ 1 ∷ 4 ∷ 5 ∷ [])
-unfolding removed_of returned_of gained_of broken_of gaining_of w1 rising on_list some
-move1_computed = (refl, refl, refl, refl, refl, refl)
 
 pub move1_change : Changed w1 axioms1 moved1 10 3 0 (0 ∷ 1 ∷ 4 ∷ 5 ∷ []) [] (0 ∷ 1 ∷ 4 ∷ 5 ∷ [])
 move1_change = changed w1 axioms1 moved1 w1_well_formed range1 move1_range 10 3 0 (0 ∷ 1 ∷ 4 ∷ 5 ∷ []) [] (0 ∷ 1 ∷ 4 ∷ 5 ∷ []) move1_computed
@@ -57,10 +51,6 @@ move2_asks = refl
 move2_range : InRange w1 moved2
 move2_range = changed_in_range w1 (0 ∷ 0 ∷ 4 ∷ 0 ∷ []) (2 ∷ 0 ∷ 4 ∷ 0 ∷ []) axioms1 move2_asks range1
 
-move2_computed : Computes w1 axioms1 moved2 5 0 5 (0 ∷ []) (2 ∷ []) (0 ∷ 2 ∷ [])
-unfolding removed_of returned_of gained_of broken_of gaining_of w1 rising on_list some
-move2_computed = (refl, refl, refl, refl, refl, refl)
-
 pub move2_change : Changed w1 axioms1 moved2 5 0 5 (0 ∷ []) (2 ∷ []) (0 ∷ 2 ∷ [])
 move2_change = changed w1 axioms1 moved2 w1_well_formed range1 move2_range 5 0 5 (0 ∷ []) (2 ∷ []) (0 ∷ 2 ∷ []) move2_computed
 
@@ -87,10 +77,6 @@ move3_asks = refl
 
 move3_range : InRange w1 moved3
 move3_range = changed_in_range w1 (1 ∷ 0 ∷ 5 ∷ 0 ∷ []) (0 ∷ 0 ∷ 5 ∷ 0 ∷ []) axioms1 move3_asks range1
-
-move3_computed : Computes w1 axioms1 moved3 8 0 2 (0 ∷ 1 ∷ 4 ∷ []) (0 ∷ []) (0 ∷ 1 ∷ 4 ∷ [])
-unfolding removed_of returned_of gained_of broken_of gaining_of w1 rising on_list some
-move3_computed = (refl, refl, refl, refl, refl, refl)
 
 pub move3_change : Changed w1 axioms1 moved3 8 0 2 (0 ∷ 1 ∷ 4 ∷ []) (0 ∷ []) (0 ∷ 1 ∷ 4 ∷ [])
 move3_change = changed w1 axioms1 moved3 w1_well_formed range1 move3_range 8 0 2 (0 ∷ 1 ∷ 4 ∷ []) (0 ∷ []) (0 ∷ 1 ∷ 4 ∷ []) move3_computed
@@ -119,10 +105,6 @@ move4_asks = refl
 move4_range : InRange w1 moved4
 move4_range = changed_in_range w1 (0 ∷ 0 ∷ 4 ∷ 0 ∷ 1 ∷ 0 ∷ 5 ∷ 0 ∷ []) (0 ∷ 0 ∷ 6 ∷ 0 ∷ 2 ∷ 0 ∷ 4 ∷ 0 ∷ []) axioms1 move4_asks range1
 
-move4_computed : Computes w1 axioms1 moved4 12 3 2 (0 ∷ 1 ∷ 4 ∷ 5 ∷ []) (2 ∷ []) (0 ∷ 1 ∷ 2 ∷ 4 ∷ 5 ∷ [])
-unfolding removed_of returned_of gained_of broken_of gaining_of w1 rising on_list some
-move4_computed = (refl, refl, refl, refl, refl, refl)
-
 pub move4_change : Changed w1 axioms1 moved4 12 3 2 (0 ∷ 1 ∷ 4 ∷ 5 ∷ []) (2 ∷ []) (0 ∷ 1 ∷ 2 ∷ 4 ∷ 5 ∷ [])
 move4_change = changed w1 axioms1 moved4 w1_well_formed range1 move4_range 12 3 2 (0 ∷ 1 ∷ 4 ∷ 5 ∷ []) (2 ∷ []) (0 ∷ 1 ∷ 2 ∷ 4 ∷ 5 ∷ []) move4_computed
 
@@ -149,10 +131,6 @@ empty_asks = refl
 
 empty_range : InRange w1 unmoved
 empty_range = changed_in_range w1 [] [] axioms1 empty_asks range1
-
-empty_computed : Computes w1 axioms1 unmoved 0 0 0 [] [] []
-unfolding removed_of returned_of gained_of broken_of gaining_of w1 rising on_list some
-empty_computed = (refl, refl, refl, refl, refl, refl)
 
 pub empty_change : Changed w1 axioms1 unmoved 0 0 0 [] [] []
 empty_change = changed w1 axioms1 unmoved w1_well_formed range1 empty_range 0 0 0 [] [] [] empty_computed
