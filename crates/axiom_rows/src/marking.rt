@@ -25,10 +25,8 @@ pub fn mark_axioms(mode: Mode, s: Shape, list: &[u8], rows: &mut [u8])
     ensures { MarksList mode s list.now rows.old rows.new }
 {
     let count = list.len() / Axiom::SIZE;
-    let mut k = 0;
-    while k < count {
+    for k in 0..count {
         let a = axiom_at(list, k);
         mark_axiom(mode, s, a.left, a.right, rows);
-        k += 1;
     }
 }

@@ -1,12 +1,10 @@
 -- What the exported functions on rows answer.
-use Rattle.std.specs.Prelude.{ℕ, ◌*◌, ◌≤◌, ◌<◌, ◌≡◌}
-use Rattle.rows.specs.declared.Found.{Found}
-use Rattle.rows.specs.declared.Found.TheVariants.{At, Nothing}
+use Rattle.std.specs.Prelude.{ℕ, ◌*◌, ◌≤◌, ◌<◌, ◌≡◌, Option, Some, None}
 
 -- The place of the bit found; where none is, the end of a row of so many bytes.
-abbrev pub place_of : Found → ℕ → ℕ
-place_of (At i) bytes = i
-place_of Nothing bytes = 8 * bytes
+abbrev pub place_of : Option ℕ → ℕ → ℕ
+place_of (Some i) bytes = i
+place_of None bytes = 8 * bytes
 
 -- r is the answer for a row of so many bytes, or 2 ^ 64 - 1 where the row is longer than 1,048,576 bytes.
 pub record Answers (bytes answer r : ℕ) : Type 0 where

@@ -1,29 +1,16 @@
 // Counting a row's bits and finding its next set one, by words and byte by byte, for the benchmark. A slice passes as a pointer and a length.
 #![tactic(auto)]
 
-ghost use Rattle.std.specs.Prelude.{◌≡◌, ◌≤◌, length};
+ghost use Rattle.std.specs.Prelude.{◌≡◌, length};
 ghost use Rattle.rows.specs.Bits.{count_bits};
 ghost use Rattle.rows.specs.Next.{next_bit};
 ghost use Rattle.bench_rows.specs.Answers.{place_of, Answers};
-
-use rows::Found;
 
 // The longest row, in bytes.
 pub const MAX: usize = 1048576;
 
 // Answered for a longer one.
 pub const TOO_LONG: usize = 18446744073709551615;
-
-// The place of the bit found, or the end of a row of so many bytes.
-fn place_of(found: Found, bytes: usize) -> usize
-    requires { bytes ≤ 1048576 }
-    ensures { result ≡ place_of found bytes }
-{
-    match found {
-        Found::At(i) => i,
-        Found::Nothing => 8 * bytes,
-    }
-}
 
 // `rows::count`.
 #[unsafe(no_mangle)]
@@ -44,7 +31,7 @@ pub extern "C" fn words_next(row: &[u8], from: usize) -> usize
     if MAX < row.len() {
         return TOO_LONG;
     }
-    place_of(rows::next(row, from), row.len())
+    rows::next(row, from).unwrap_or(8 * row.len())
 }
 
 // `bytewise::count`.
@@ -66,5 +53,5 @@ pub extern "C" fn bytes_next(row: &[u8], from: usize) -> usize
     if MAX < row.len() {
         return TOO_LONG;
     }
-    place_of(bytewise::next(row, from), row.len())
+    bytewise::next(row, from).unwrap_or(8 * row.len())
 }

@@ -1,13 +1,12 @@
 -- What the four numbers that are answered say: each is the least that is enough.
-use Rattle.std.specs.Prelude.{ℕ, ◌≤◌, ◌≡◌, true, ◌↔◌, List, length}
+use Rattle.std.specs.Prelude.{ℕ, ◌≤◌, ◌≡◌, true, ◌↔◌, List, length, Ok}
 use Rattle.catalogue.specs.Outcome.{accepted, refused}
 use Rattle.rows.specs.Bits.{Bytes}
 use Rattle.layout.specs.Parts.{in_force}
 use Rattle.store.specs.Checks.{store_fits, work_fits, list_fits}
 use Rattle.store.specs.Written.{written}
 use Rattle.writing.specs.Write.{write_checks}
-use Rattle.buffer_sizes.specs.Sizes.{Measures}
-use Rattle.buffer_sizes.specs.declared.Sizes.TheVariants.{Needed}
+use Rattle.buffer_sizes.specs.Sizes.{needed, Measures}
 
 -- 10, 11 and 12 are answered yes for a length exactly if it is at least the first, the second, the third number. 20 is answered yes for an output's length
 -- and all stores together that come to it, those that pass 10, 13 and 14, exactly if it is at least the fourth; for one of them less may do. And there is a
@@ -29,5 +28,5 @@ pub record Most (b : List ℕ) (store work list output : ℕ) : Type 0 where
 
 -- So of every answer.
 pub record SizesMean : Type 0 where
-  pub enough : (b : List ℕ) (store work list output : ℕ) → Measures b (Needed store work list output) → Enough b store work list output
-  pub most : (b : List ℕ) (store work list output : ℕ) → Measures b (Needed store work list output) → Most b store work list output
+  pub enough : (b : List ℕ) (store work list output : ℕ) → Measures b (Ok (needed store work list output)) → Enough b store work list output
+  pub most : (b : List ℕ) (store work list output : ℕ) → Measures b (Ok (needed store work list output)) → Most b store work list output

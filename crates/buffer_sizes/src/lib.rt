@@ -6,17 +6,20 @@ ghost use Rattle.catalogue.specs.WellFormed.{WellFormed};
 ghost use Rattle.buffer_sizes.specs.Sizes.{most_axioms, most_written, Measures};
 
 use catalogue::header::axioms_at;
-use catalogue::{Axiom, Verdict, concepts};
+use catalogue::{Axiom, Refusal, concepts};
 use layout::{used, work_used};
 
-// What is needed: bytes of a store, of a work space and of a list, and the most that write gives; or the number and record of the refusal.
+// Bytes of a store, of a work space and of a list, and the most that write gives.
 #[derive(Clone, Copy)]
-pub enum Sizes {
-    Needed(usize, usize, usize, usize),
-    Refused(usize, usize),
+pub struct Sizes {
+    pub store: usize,
+    pub work: usize,
+    pub list: usize,
+    pub output: usize,
 }
 
 // The most axioms that n concepts can have in force.
+#[tactic(auto, unfolding(crate::specs::Sizes::most_axioms))]
 fn most_axioms(n: usize) -> usize
     requires { n ≤ 512 }
     ensures { result ≡ most_axioms n }
@@ -30,6 +33,7 @@ fn most_axioms(n: usize) -> usize
 }
 
 // The most bytes that write gives.
+#[tactic(auto, unfolding(crate::specs::Sizes::most_axioms, crate::specs::Sizes::most_written))]
 fn most_written(b: &[u8]) -> usize
     requires { WellFormed b.now }
     ensures { result ≡ most_written b.now }
@@ -39,17 +43,15 @@ fn most_written(b: &[u8]) -> usize
 }
 
 // Questions 1 to 9 of a slice of any content and length, and then the bytes that are needed.
-pub fn measure(b: &[u8]) -> Sizes
+#[tactic(auto, using(catalogue::proofs::HandedOn::handed_on, crate::proofs::Answered::sizes_accepted, crate::proofs::Answered::sizes_refused))]
+pub fn measure(b: &[u8]) -> Result<Sizes, Refusal>
     ensures { Measures b.now result }
 {
-    match catalogue::check(b) {
-        Verdict::Refused(number, record) => Sizes::Refused(number, record),
-        Verdict::Accepted => {
-            let store = used(b);
-            let work = work_used(b);
-            let list = 2 * concepts(b);
-            let output = most_written(b);
-            Sizes::Needed(store, work, list, output)
-        }
-    }
+    catalogue::check(b)?;
+    Ok(Sizes {
+        store: used(b),
+        work: work_used(b),
+        list: 2 * concepts(b),
+        output: most_written(b),
+    })
 }

@@ -1,33 +1,32 @@
 // Calls that change a store, run for the programs of the gate, with their answers written.
 #![tactic(auto)]
 
+use catalogue::Refusal;
 use change_contract::Changed;
-use classification::Classified;
 use std::io;
 use test_cases::{least, say, say_refused, say_reply};
 
 // Classifies a catalogue, and writes the answer.
 fn run_classify(rt: &impl Print, b: &[u8], store: &mut [u8], work: &mut [u8]) -> io::Result<()> {
-    let answer = classification::classify(b, store, work);
-    match answer {
-        Classified::Done(pairs, links) => {
-            say(rt, b"pairs ", pairs)?;
-            say(rt, b" links ", links)
+    match classification::classify(b, store, work) {
+        Ok(counts) => {
+            say(rt, b"pairs ", counts.pairs)?;
+            say(rt, b" links ", counts.links)
         }
-        Classified::Refused(number, record) => say_refused(rt, number, record),
+        Err(e) => say_refused(rt, e.number, e.at),
     }
 }
 
 // Writes a change's answer.
-fn say_changed(rt: &impl Print, answer: Changed) -> io::Result<()> {
+fn say_changed(rt: &impl Print, answer: Result<Changed, Refusal>) -> io::Result<()> {
     match answer {
-        Changed::Done(removed, returned, gained, touched) => {
-            say(rt, b"removed ", removed)?;
-            say(rt, b" returned ", returned)?;
-            say(rt, b" gained ", gained)?;
-            say(rt, b" touched ", touched)
+        Ok(counts) => {
+            say(rt, b"removed ", counts.removed)?;
+            say(rt, b" returned ", counts.returned)?;
+            say(rt, b" gained ", counts.gained)?;
+            say(rt, b" touched ", counts.touched)
         }
-        Changed::Refused(number, record) => say_refused(rt, number, record),
+        Err(e) => say_refused(rt, e.number, e.at),
     }
 }
 

@@ -6,6 +6,8 @@ use mathlib.Core.List.{List, ◌++◌}
 use lib.ListN.{get_or, take, drop}
 use lib.Seq.{drop-drop}
 use borrow.Rule.Slice.PartMut.{mid_of, put_mid}
+use Rattle.std.proofs.Common.{Result}
+use Rattle.catalogue.specs.declared.checks.Refusal.{Refusal}
 use Rattle.classification.specs.Classified.{Classifies}
 use Rattle.classification.specs.declared.Classified.{Classified}
 use Rattle.change_contract.specs.Edits.{Lent, lend, Edits}
@@ -16,7 +18,7 @@ use Rattle.call_lists.specs.Running.{Space, space, entries_of, Answers, AnswersA
 
 -- ---- by its kind
 
-pub answers_classify : (q : Request) (b store work list : List ℕ) (a : Classified) (store' work' entries : List ℕ) → q ≡ classify
+pub answers_classify : (q : Request) (b store work list : List ℕ) (a : Result Classified Refusal) (store' work' entries : List ℕ) → q ≡ classify
     → Classifies b store work a store' work' → entries ≡ entries_of (classified a) → Answers b q (lend store work list) (lend store' work' list) entries
 answers_classify q b store work list a store' work' entries e call f =
     record {
@@ -26,7 +28,7 @@ answers_classify q b store work list a store' work' entries e call f =
       list_kept = λ z. refl;
     }
 
-pub answers_change : (q : Request) (b withdrawn added : List ℕ) (u : Lent) (a : Changed) (v : Lent) (entries : List ℕ) → q ≡ change withdrawn added → Edits b withdrawn added u a v
+pub answers_change : (q : Request) (b withdrawn added : List ℕ) (u : Lent) (a : Result Changed Refusal) (v : Lent) (entries : List ℕ) → q ≡ change withdrawn added → Edits b withdrawn added u a v
     → entries ≡ entries_of (changed a) → Answers b q u v entries
 answers_change q b withdrawn added u a v entries e call f =
     record {

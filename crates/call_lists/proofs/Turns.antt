@@ -9,6 +9,7 @@ use mathlib.Core.List.Memᴰ
 use mathlib.Core.List.{Memᴰ}
 use lib.ListN.{length, take, drop, length-drop}
 use lib.Seq.{take_all, take-add, length-take-le}
+use Rattle.std.proofs.Common.{Result, Ok}
 use Rattle.catalogue.specs.Outcome.{accepted}
 use Rattle.rules.specs.Axioms.{none}
 use Rattle.change_contract.specs.Questions.{Lengths}
@@ -17,8 +18,7 @@ use Rattle.change_contract.specs.Edits.{lend}
 use Rattle.demands.specs.Sequences.{Request, classify, Call, outcome_of, Turn, Meets, RunsOn, Ran, nothing, first, Sequence, questions, after_calls, in_force_after, ClassifiedAfresh}
 use Rattle.demands.proofs.Turns.{classify_turn_lem}
 use Rattle.demands.proofs.DemandThree.{demand_three}
-use Rattle.call_lists.specs.declared.Carried.{Carried}
-use Rattle.call_lists.specs.declared.Carried.TheVariants.{Done}
+use Rattle.call_lists.specs.declared.Fault.{Fault}
 use Rattle.call_lists.specs.Requests.{request_at, requests, part_of, call_right, carried}
 use Rattle.call_lists.specs.Running.{Space, entries_of, AnswersAt, call_of, PassedOn, Runs, Runnable, Concludes, Carries, CarriesOut}
 use Rattle.call_lists.proofs.Parts.{nothing_left, part_kept, part_written, flat_more}
@@ -176,13 +176,13 @@ carries b calls (suc n) u v begins r =
 
 -- ---- the answer
 
-module _ (b calls : List ℕ) (u : Space) (answer : Carried) (asked : answer ≡ carried calls (length u.lists) (length u.answers)) where
+module _ (b calls : List ℕ) (u : Space) (answer : Result ℕ Fault) (asked : answer ≡ carried calls (length u.lists) (length u.answers)) where
   -- Refused, with every buffer kept.
-  pub refuses_all : ((n : ℕ) → ¬ (answer ≡ Done n)) → CarriesOut b calls u answer u
+  pub refuses_all : ((n : ℕ) → ¬ (answer ≡ Ok n)) → CarriesOut b calls u answer u
   refuses_all other = record { answers = asked; carries = λ n e. absurd (other n e); refuses = λ o. refl }
 
   -- Carried out.
-  pub carries_all : (n : ℕ) (v : Space) → answer ≡ Done n → Runs b calls n u v → CarriesOut b calls u answer v
+  pub carries_all : (n : ℕ) (v : Space) → answer ≡ Ok n → Runs b calls n u v → CarriesOut b calls u answer v
   carries_all n v done r =
       let all : Runnable calls n u = done_runnable calls u n (sym asked ∙ done) in
       record {

@@ -5,13 +5,13 @@ use mathlib.Core.Path.{◌≡◌, refl, sym, ap, ap₂, subst, ◌∙◌}
 use mathlib.Core.List.{List, [], ◌∷◌, ◌++◌, map, flat_map, nil≢cons, head-eq_of_cons-eq, tail-eq_of_cons-eq}
 use lib.ListN.{length, take, drop}
 use lib.Seq.{take_at, drop_at}
+use Rattle.std.proofs.Common.{Result, Ok, Err}
 use Rattle.change_contract.specs.Questions.{Lengths}
 use Rattle.classification.proofs.Unique.{classifies_unique}
 use Rattle.change_contract.specs.Edits.{Lent, lend}
 use Rattle.change_contract.proofs.Unique.{same_buffers, edit_unique}
 use Rattle.demands.specs.Sequences.{Request, classify, change, Call, Answer, classified, changed, Turn, Meets, classifies, changes, RunsOn, Ran, nothing, first}
-use Rattle.call_lists.specs.declared.Carried.{Carried}
-use Rattle.call_lists.specs.declared.Carried.TheVariants.{Done, BadCall, ShortLists, ShortAnswers}
+use Rattle.call_lists.specs.declared.Fault.{Fault}
 use Rattle.call_lists.specs.Running.{Space, space, entries_of, PassedOn, Runs, CarriesOut}
 
 -- ---- one call
@@ -114,17 +114,15 @@ runs_unique b calls n u v v' r r' =
 
 -- ---- the list
 
-pub carries_out_unique : (b calls : List ℕ) (u : Space) (a a' : Carried) (v v' : Space) → CarriesOut b calls u a v → CarriesOut b calls u a' v'
+pub carries_out_unique : (b calls : List ℕ) (u : Space) (a a' : Result ℕ Fault) (v v' : Space) → CarriesOut b calls u a v → CarriesOut b calls u a' v'
     → (a ≡ a') × (v ≡ v')
 carries_out_unique b calls u a a' v v' p q =
     let same : a ≡ a' = p.answers ∙ sym q.answers in
     (same, go a refl same)
   where
-    refused : ((n : ℕ) → ¬ (a ≡ Done n)) → a ≡ a' → v ≡ v'
+    refused : ((n : ℕ) → ¬ (a ≡ Ok n)) → a ≡ a' → v ≡ v'
     refused other e = p.refuses other ∙ sym (q.refuses (λ n f. other n (e ∙ f)))
 
-    go : (o : Carried) → a ≡ o → a ≡ a' → v ≡ v'
-    go (Done n) e f = runs_unique b calls n u v v' (p.carries n e).runs (q.carries n (sym f ∙ e)).runs
-    go (BadCall k) e f = refused (λ n g. let z : ◌≡◌ {A = ℕ} 0 1 = cc in omega arith) f
-    go ShortLists e f = refused (λ n g. let z : ◌≡◌ {A = ℕ} 0 1 = cc in omega arith) f
-    go ShortAnswers e f = refused (λ n g. let z : ◌≡◌ {A = ℕ} 0 1 = cc in omega arith) f
+    go : (o : Result ℕ Fault) → a ≡ o → a ≡ a' → v ≡ v'
+    go (Ok n) e f = runs_unique b calls n u v v' (p.carries n e).runs (q.carries n (sym f ∙ e)).runs
+    go (Err x) e f = refused (λ n g. let z : ◌≡◌ {A = ℕ} 0 1 = cc in omega arith) f

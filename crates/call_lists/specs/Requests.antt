@@ -1,12 +1,12 @@
 -- A list of calls as bytes (document 02, request Four), 525 for each: its kind (0 classify, 1 change), the bytes of its two lists of axioms, two bytes each,
 -- low byte first, and room for each list, 260 bytes: the axioms withdrawn and those added, from the front of their room. Of a classify only the lengths are asked.
 -- What is asked of the bytes before the first call, and the answer.
-use Rattle.std.specs.Prelude.{ℕ, zero, suc, ◌+◌, ◌*◌, ◌/◌, Bool, true, false, ◌&&◌, List, [], ◌∷◌, ◌++◌, length, get_or, take, drop, leb, eqb}
+use Rattle.std.specs.Prelude.{ℕ, zero, suc, ◌+◌, ◌*◌, ◌/◌, Bool, true, false, ◌&&◌, List, [], ◌∷◌, ◌++◌, length, get_or, take, drop, leb, eqb, Result, Ok, Err}
 use Rattle.catalogue.specs.Words.{word}
 use Rattle.catalogue.specs.Outcome.{first_fault}
 use Rattle.demands.specs.Sequences.{Request, classify, change}
-use Rattle.call_lists.specs.declared.Carried.{Carried}
-use Rattle.call_lists.specs.declared.Carried.TheVariants.{Done, BadCall, ShortLists, ShortAnswers}
+use Rattle.call_lists.specs.declared.Fault.{Fault}
+use Rattle.call_lists.specs.declared.Fault.TheVariants.{BadCall, ShortLists, ShortAnswers}
 
 -- ---- the calls
 
@@ -55,14 +55,14 @@ call_right calls k =
     && ((leb (get_or calls (525 * k) 0) (last_kind k) && leb (word calls (525 * k + 1)) 260) && leb (word calls (525 * k + 3)) 260)
 
 -- On yes the rest is asked, on no this is the answer.
-unfoldable pub ask : Bool → Carried → Carried → Carried
+unfoldable pub ask : Bool → Result ℕ Fault → Result ℕ Fault → Result ℕ Fault
 ask true answer rest = rest
 ask false answer rest = answer
 
 -- The answer, by the bytes and the lengths of the two buffers alone: the first call that is not right; no room for 1,024 bytes of list for each call, or for
 -- six numbers of answer; or the number of calls carried out.
-unfoldable pub carried : (calls : List ℕ) (lists answers : ℕ) → Carried
+unfoldable pub carried : (calls : List ℕ) (lists answers : ℕ) → Result ℕ Fault
 carried calls lists answers =
     let n = call_count calls in
     let bad = first_fault (call_right calls) n in
-    ask (leb n bad) (BadCall bad) (ask (leb n (lists / 1024)) ShortLists (ask (leb n (answers / 6)) ShortAnswers (Done n)))
+    ask (leb n bad) (Err (BadCall bad)) (ask (leb n (lists / 1024)) (Err ShortLists) (ask (leb n (answers / 6)) (Err ShortAnswers) (Ok n)))

@@ -1,16 +1,13 @@
 -- A list of calls carried out on one catalogue (document 01, Edits in a row): every call is lent the whole store, the whole work space and its own part of
 -- the lists, and its answer has its own part of the answers.
-use Rattle.std.specs.Prelude.{ℕ, ◌+◌, ◌*◌, ◌≤◌, ◌<◌, ◌≡◌, true, length, take, drop}
+use Rattle.std.specs.Prelude.{ℕ, ◌+◌, ◌*◌, ◌≤◌, ◌<◌, ◌≡◌, true, length, take, drop, Result, Ok, Err}
 use mathlib.Core.List.{List, [], ◌∷◌, ◌++◌, map, flat_map}
 use Rattle.catalogue.specs.Outcome.{accepted}
 use Rattle.rules.specs.Axioms.{none}
 use Rattle.classification.specs.Classified.{classify_checks}
-use Rattle.classification.specs.declared.Classified.TheVariants as classify_answers
 use Rattle.change_contract.specs.Edits.{Lent, lend}
-use Rattle.change_contract.specs.declared.Changed.TheVariants as change_answers
 use Rattle.demands.specs.Sequences.{Request, classify, Call, Answer, classified, changed, Turn, Meets, Ran, Sequence, after_calls, AllCorrect, ClassifiedAfresh}
-use Rattle.call_lists.specs.declared.Carried.{Carried}
-use Rattle.call_lists.specs.declared.Carried.TheVariants.{Done}
+use Rattle.call_lists.specs.declared.Fault.{Fault}
 use Rattle.call_lists.specs.Requests.{request_at, requests, part_of, call_right, carried}
 
 -- The buffers that are lent.
@@ -28,10 +25,10 @@ space store work lists answers = record { store = store; work = work; lists = li
 -- The six numbers of an answer: the number of the question that was answered no and the record at fault, 0 and 0 where none was; and then the counts,
 -- pairs and links for a classify, removed, returned, gained and touched for a change, and 0 past them.
 unfoldable pub entries_of : Answer → List ℕ
-entries_of (classified (classify_answers.Done pairs links)) = 0 ∷ 0 ∷ pairs ∷ links ∷ 0 ∷ 0 ∷ []
-entries_of (classified (classify_answers.Refused number at)) = number ∷ at ∷ 0 ∷ 0 ∷ 0 ∷ 0 ∷ []
-entries_of (changed (change_answers.Done removed returned gained touched)) = 0 ∷ 0 ∷ removed ∷ returned ∷ gained ∷ touched ∷ []
-entries_of (changed (change_answers.Refused number at)) = number ∷ at ∷ 0 ∷ 0 ∷ 0 ∷ 0 ∷ []
+entries_of (classified (Ok c)) = 0 ∷ 0 ∷ c.pairs ∷ c.links ∷ 0 ∷ 0 ∷ []
+entries_of (classified (Err e)) = e.number ∷ e.at ∷ 0 ∷ 0 ∷ 0 ∷ 0 ∷ []
+entries_of (changed (Ok c)) = 0 ∷ 0 ∷ c.removed ∷ c.returned ∷ c.gained ∷ c.touched ∷ []
+entries_of (changed (Err e)) = e.number ∷ e.at ∷ 0 ∷ 0 ∷ 0 ∷ 0 ∷ []
 
 -- A call met its own contract, and its answer is entered. A classify leaves its list as it was.
 pub record Answers (b : List ℕ) (q : Request) (u v : Lent) (entries : List ℕ) : Type 0 where
@@ -93,7 +90,7 @@ pub record Carries (b calls : List ℕ) (n : ℕ) (u v : Space) : Type 0 where
       → Concludes b (map (call_of b u) (requests calls n)) runs.turns u.store v.store
 
 -- Carrying out a list of calls: carried out, or refused with every buffer kept.
-pub record CarriesOut (b calls : List ℕ) (u : Space) (answer : Carried) (v : Space) : Type 0 where
+pub record CarriesOut (b calls : List ℕ) (u : Space) (answer : Result ℕ Fault) (v : Space) : Type 0 where
   pub answers : answer ≡ carried calls (length u.lists) (length u.answers)
-  pub carries : (n : ℕ) → answer ≡ Done n → Carries b calls n u v
-  pub refuses : ((n : ℕ) → ¬ (answer ≡ Done n)) → v ≡ u
+  pub carries : (n : ℕ) → answer ≡ Ok n → Carries b calls n u v
+  pub refuses : ((n : ℕ) → ¬ (answer ≡ Ok n)) → v ≡ u

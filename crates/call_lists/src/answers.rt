@@ -5,6 +5,7 @@ ghost use Rattle.demands.specs.Sequences.{classified, changed};
 ghost use Rattle.call_lists.specs.Requests.{request_by};
 ghost use Rattle.call_lists.specs.Running.{entries_of, Answers};
 
+use catalogue::Refusal;
 use change::change;
 use change_contract::Changed;
 use classification::{Classified, classify};
@@ -23,26 +24,32 @@ fn enter(entries: &mut [usize], number: usize, at: usize, p: usize, q: usize, r:
 }
 
 // Enters what a classify answered.
-fn enter_classified(answer: Classified, entries: &mut [usize])
+fn enter_classified(answer: Result<Classified, Refusal>, entries: &mut [usize])
     requires { length entries.old ≡ 6 }
     ensures { entries.new ≡ entries_of (classified answer) }
 {
     match answer {
-        Classified::Done(pairs, links) => enter(entries, 0, 0, pairs, links, 0, 0),
-        Classified::Refused(number, at) => enter(entries, number, at, 0, 0, 0, 0),
+        Ok(counts) => enter(entries, 0, 0, counts.pairs, counts.links, 0, 0),
+        Err(e) => enter(entries, e.number, e.at, 0, 0, 0, 0),
     }
 }
 
 // Enters what a change answered.
-fn enter_changed(answer: Changed, entries: &mut [usize])
+fn enter_changed(answer: Result<Changed, Refusal>, entries: &mut [usize])
     requires { length entries.old ≡ 6 }
     ensures { entries.new ≡ entries_of (changed answer) }
 {
     match answer {
-        Changed::Done(removed, returned, gained, touched) => {
-            enter(entries, 0, 0, removed, returned, gained, touched)
-        }
-        Changed::Refused(number, at) => enter(entries, number, at, 0, 0, 0, 0),
+        Ok(counts) => enter(
+            entries,
+            0,
+            0,
+            counts.removed,
+            counts.returned,
+            counts.gained,
+            counts.touched,
+        ),
+        Err(e) => enter(entries, e.number, e.at, 0, 0, 0, 0),
     }
 }
 

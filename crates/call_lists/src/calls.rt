@@ -2,7 +2,7 @@
 ghost use Rattle.std.specs.Prelude.{◌<◌};
 ghost use Rattle.call_lists.specs.Running.{space, AnswersAt, Runs, Runnable, CarriesOut};
 
-use super::Carried;
+use super::Fault;
 use super::answers::call;
 use super::requests::{ENTRIES, LIST, OUT, PUT, SIZE, check_calls};
 use catalogue::word;
@@ -56,10 +56,8 @@ fn run(
     requires { Runnable calls.now count (space store.old work.old lists.old answers.old) }
     ensures { Runs b.now calls.now count (space store.old work.old lists.old answers.old) (space store.new work.new lists.new answers.new) }
 {
-    let mut k = 0;
-    while k < count {
+    for k in 0..count {
         call_at(b, calls, count, k, store, work, lists, answers);
-        k += 1;
     }
 }
 
@@ -71,16 +69,10 @@ pub fn carry_out(
     work: &mut [u8],
     lists: &mut [u8],
     answers: &mut [usize],
-) -> Carried
+) -> Result<usize, Fault>
     ensures { CarriesOut b.now calls.now (space store.old work.old lists.old answers.old) result (space store.new work.new lists.new answers.new) }
 {
-    match check_calls(calls, lists.len(), answers.len()) {
-        Carried::Done(count) => {
-            run(b, calls, count, store, work, lists, answers);
-            Carried::Done(count)
-        }
-        Carried::BadCall(k) => Carried::BadCall(k),
-        Carried::ShortLists => Carried::ShortLists,
-        Carried::ShortAnswers => Carried::ShortAnswers,
-    }
+    let count = check_calls(calls, lists.len(), answers.len())?;
+    run(b, calls, count, store, work, lists, answers);
+    Ok(count)
 }

@@ -7,10 +7,9 @@ pub mod calls; // calls.rt: the calls in a row
 
 pub use calls::carry_out;
 
-// So many calls carried out; or the first call that is cut, of no kind that it may be, or with a list longer than its room; or no room for the calls' lists, or for their answers.
+// Why no call is carried out: the first call that is cut, of no kind that it may be, or with a list longer than its room; or no room for the calls' lists, or for their answers.
 #[derive(Clone, Copy)]
-pub enum Carried {
-    Done(usize),
+pub enum Fault {
     BadCall(usize),
     ShortLists,
     ShortAnswers,

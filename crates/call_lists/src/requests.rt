@@ -1,9 +1,9 @@
 // The bytes of a list of calls, and what is asked of them before the first call.
 ghost use Rattle.std.specs.Prelude.{◌*◌, ◌<◌, ◌≡◌, length};
-ghost use Rattle.catalogue.specs.Outcome.{first_fault};
-ghost use Rattle.call_lists.specs.Requests.{call_count, last_kind, call_right, carried};
+ghost use Rattle.call_lists.specs.Requests.{last_kind, call_right, carried};
 
-use super::Carried;
+use super::Fault;
+use catalogue::checks::first_fault;
 use catalogue::word;
 
 // The bytes of a call: its kind, two lengths, and room for two lists.
@@ -45,35 +45,20 @@ fn call_right(calls: &[u8], k: usize) -> bool
     (calls[at] <= last) & (word(calls, at + 1) <= ROOM) & (word(calls, at + 3) <= ROOM)
 }
 
-// The first call that is not right, or their number where all are.
-fn first_bad(calls: &[u8], count: usize) -> usize
-    requires { count ≡ call_count calls.now }
-    ensures { result ≡ first_fault (call_right calls.now) count }
-{
-    let mut k = 0;
-    while k < count {
-        if !call_right(calls, k) {
-            break;
-        }
-        k += 1;
-    }
-    k
-}
-
-// Is every call right, and is there room for so many, in lists and answers of these lengths?
-pub fn check_calls(calls: &[u8], lists: usize, answers: usize) -> Carried
+// How many calls there are, if every one is right and there is room for so many, in lists and answers of these lengths.
+pub fn check_calls(calls: &[u8], lists: usize, answers: usize) -> Result<usize, Fault>
     ensures { result ≡ carried calls.now lists answers }
 {
     let count = (calls.len() + (SIZE - 1)) / SIZE;
-    let bad = first_bad(calls, count);
+    let bad = first_fault(count, |k| call_right(calls, k));
     if bad < count {
-        return Carried::BadCall(bad);
+        return Err(Fault::BadCall(bad));
     }
     if lists / LIST < count {
-        return Carried::ShortLists;
+        return Err(Fault::ShortLists);
     }
     if answers / ENTRIES < count {
-        return Carried::ShortAnswers;
+        return Err(Fault::ShortAnswers);
     }
-    Carried::Done(count)
+    Ok(count)
 }

@@ -1,3 +1,4 @@
+pub mod HandedOn
 pub mod Words
 pub mod Bounds
 pub mod FirstFault

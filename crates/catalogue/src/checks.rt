@@ -1,33 +1,23 @@
 // A catalogue's checks (document 01: questions 1 to 9): a test for each question, one search for the first record at
 // fault, and the call that puts them in order.
-ghost use Rattle.std.specs.Prelude.{◌≡◌, ◌+◌, ◌*◌, ◌<◌, ◌≤◌, length};
+ghost use Rattle.std.specs.Prelude.{ℕ, Bool, ◌≡◌, ◌+◌, ◌*◌, ◌<◌, ◌≤◌, length};
 ghost use Rattle.catalogue.specs.Header.{inclusions_at, compositions_at, axioms_at};
 ghost use Rattle.catalogue.specs.Checks.{total_right, counts_in_limits, offsets_right, kind_right, fields_right, inclusion_right, composition_right, sides_right, rising_right, concept_questions, role_questions, axiom_questions, record_questions, checked};
 ghost use Rattle.catalogue.specs.Outcome.{accepted, first_fault};
 ghost use Rattle.catalogue.specs.Questions.{ask_all};
 ghost use Rattle.catalogue.specs.Sections.{Sections};
-ghost use Rattle.catalogue.specs.Verdicts.{outcome_of, record_count, record_right};
+ghost use Rattle.catalogue.specs.Verdicts.{outcome_of};
 
 use super::header;
 use super::header::{axioms, compositions, concepts, inclusions, roles};
 use super::records::{Axiom, Composition, Concept, Inclusion};
 
-// What the checks answer: accepted, or refused with the number of the question and the record at fault.
+// A refusal: the number of the question that is answered no, and the record at fault (0 where none is named). The number stays a number: the papers name
+// refusals by it, and C is told it.
 #[derive(Clone, Copy)]
-pub enum Verdict {
-    Accepted,
-    Refused(usize, usize),
-}
-
-// A question that is put to every record of a section.
-#[derive(Clone, Copy)]
-enum RecordCheck {
-    Kind,
-    Fields,
-    InclusionRoles,
-    CompositionRoles,
-    Sides,
-    Order,
+pub struct Refusal {
+    pub number: usize,
+    pub at: usize,
 }
 
 // 2: is the total field the length?
@@ -138,121 +128,116 @@ fn rising_right(b: &[u8], k: usize) -> bool
     (c.left < d.left) | ((c.left == d.left) & (c.right < d.right))
 }
 
-// Does record k pass a question?
-fn passes(b: &[u8], check: RecordCheck, k: usize) -> bool
-    requires { Sections b.now × (k < record_count b.now check) }
-    ensures { result ≡ record_right b.now check k }
+// The first of so many records that a question is answered no of, or their number where there is none.
+pub fn first_fault<F: Fn(usize) -> bool>(count: usize, right: F) -> usize
+    requires { (k : ℕ) → k < count → F.pre right k }
+    ensures { (ok : ℕ → Bool) → ((k : ℕ) (r : Bool) → k < count → F.post right k r → r ≡ ok k) → result ≡ first_fault ok count }
 {
-    match check {
-        RecordCheck::Kind => kind_right(b, k),
-        RecordCheck::Fields => fields_right(b, k),
-        RecordCheck::InclusionRoles => inclusion_right(b, k),
-        RecordCheck::CompositionRoles => composition_right(b, k),
-        RecordCheck::Sides => sides_right(b, k),
-        RecordCheck::Order => rising_right(b, k),
-    }
-}
-
-// The first of a section's records that fails a question, or their number where all pass.
-fn first_fault(b: &[u8], check: RecordCheck, count: usize) -> usize
-    requires { Sections b.now × (count ≡ record_count b.now check) }
-    ensures { result ≡ first_fault (record_right b.now check) count }
-{
-    let mut k = 0;
-    while k < count {
-        if !passes(b, check, k) {
+    let mut first = count;
+    for k in 0..count {
+        if !right(k) {
+            first = k;
             break;
         }
-        k += 1;
     }
-    k
+    first
 }
 
 // Questions 5 and 6, each over all concepts before the next.
-fn check_concepts(b: &[u8]) -> Verdict
+fn check_concepts(b: &[u8]) -> Result<(), Refusal>
     requires { Sections b.now }
     ensures { outcome_of result ≡ ask_all concept_questions b.now accepted }
 {
     let n = concepts(b);
-    let kind = first_fault(b, RecordCheck::Kind, n);
+    let kind = first_fault(n, |k| kind_right(b, k));
     if kind < n {
-        return Verdict::Refused(5, kind);
+        return Err(Refusal {
+            number: 5,
+            at: kind,
+        });
     }
-    let fields = first_fault(b, RecordCheck::Fields, n);
+    let fields = first_fault(n, |k| fields_right(b, k));
     if fields < n {
-        return Verdict::Refused(6, fields);
+        return Err(Refusal {
+            number: 6,
+            at: fields,
+        });
     }
-    Verdict::Accepted
+    Ok(())
 }
 
 // Question 7, over the inclusions and then over the compositions.
-fn check_roles(b: &[u8]) -> Verdict
+fn check_roles(b: &[u8]) -> Result<(), Refusal>
     requires { Sections b.now }
     ensures { outcome_of result ≡ ask_all role_questions b.now accepted }
 {
     let h = inclusions(b);
-    let inclusion = first_fault(b, RecordCheck::InclusionRoles, h);
+    let inclusion = first_fault(h, |k| inclusion_right(b, k));
     if inclusion < h {
-        return Verdict::Refused(7, inclusion);
+        return Err(Refusal {
+            number: 7,
+            at: inclusion,
+        });
     }
     let k = compositions(b);
-    let composition = first_fault(b, RecordCheck::CompositionRoles, k);
+    let composition = first_fault(k, |k| composition_right(b, k));
     if composition < k {
-        return Verdict::Refused(7, composition);
+        return Err(Refusal {
+            number: 7,
+            at: composition,
+        });
     }
-    Verdict::Accepted
+    Ok(())
 }
 
 // Questions 8 and 9, each over all axioms before the next.
-fn check_axioms(b: &[u8]) -> Verdict
+fn check_axioms(b: &[u8]) -> Result<(), Refusal>
     requires { Sections b.now }
     ensures { outcome_of result ≡ ask_all axiom_questions b.now accepted }
 {
     let a = axioms(b);
-    let side = first_fault(b, RecordCheck::Sides, a);
+    let side = first_fault(a, |k| sides_right(b, k));
     if side < a {
-        return Verdict::Refused(8, side);
+        return Err(Refusal {
+            number: 8,
+            at: side,
+        });
     }
-    let order = first_fault(b, RecordCheck::Order, a);
+    let order = first_fault(a, |k| rising_right(b, k));
     if order < a {
-        return Verdict::Refused(9, order);
+        return Err(Refusal {
+            number: 9,
+            at: order,
+        });
     }
-    Verdict::Accepted
+    Ok(())
 }
 
 // Questions 5 to 9.
-fn check_records(b: &[u8]) -> Verdict
+fn check_records(b: &[u8]) -> Result<(), Refusal>
     requires { Sections b.now }
     ensures { outcome_of result ≡ ask_all record_questions b.now accepted }
 {
-    let concepts = check_concepts(b);
-    match concepts {
-        Verdict::Refused(number, at) => Verdict::Refused(number, at),
-        Verdict::Accepted => {
-            let roles = check_roles(b);
-            match roles {
-                Verdict::Refused(number, at) => Verdict::Refused(number, at),
-                Verdict::Accepted => check_axioms(b),
-            }
-        }
-    }
+    check_concepts(b)?;
+    check_roles(b)?;
+    check_axioms(b)
 }
 
 // Questions 1 to 9 of a slice of any content and length.
-pub fn check(b: &[u8]) -> Verdict
+pub fn check(b: &[u8]) -> Result<(), Refusal>
     ensures { outcome_of result ≡ checked b.now }
 {
     if b.len() < header::SIZE {
-        return Verdict::Refused(1, 0);
+        return Err(Refusal { number: 1, at: 0 });
     }
     if !total_right(b) {
-        return Verdict::Refused(2, 0);
+        return Err(Refusal { number: 2, at: 0 });
     }
     if !counts_in_limits(b) {
-        return Verdict::Refused(3, 0);
+        return Err(Refusal { number: 3, at: 0 });
     }
     if !offsets_right(b) {
-        return Verdict::Refused(4, 0);
+        return Err(Refusal { number: 4, at: 0 });
     }
     check_records(b)
 }

@@ -21,6 +21,8 @@ pub fn word(b: &[u8], at: usize) -> usize
     number(b[at], b[at + 1])
 }
 
+// The ten fields, each by its name in document 01, as specs/Header has them: one function of a constant would have ten cases in its contract.
+
 // The total length.
 pub fn total(b: &[u8]) -> usize
     requires { 20 ≤ length b.now }

@@ -16,6 +16,7 @@ pub struct Concept {
 }
 
 impl Concept {
+    // The kinds are constants of the record's type, as document 01 has them.
     pub const ATOMIC: usize = 0;
 
     pub const TOP: usize = 1;
@@ -50,6 +51,8 @@ impl Concept {
         Concept::from_bytes(b[p], b[p + 1], b[p + 2], b[p + 3], b[p + 4], b[p + 5])
     }
 }
+
+// The three records below have no trait in common: their fields differ, and so do the sections that they are read from.
 
 // An inclusion: the role `within` lies within the role `around`.
 #[derive(Clone, Copy)]

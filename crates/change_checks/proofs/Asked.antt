@@ -14,11 +14,9 @@ use Rattle.rules.specs.Axioms.{Axioms}
 use Rattle.store.specs.Written.{axiom_count}
 use Rattle.store.specs.Checks.{axioms_in_limit, numbers_below}
 use Rattle.change_contract.specs.Lists.{axioms_in, sides_in, edited}
-use Rattle.change_contract.specs.Questions.{is_whole, none_twice, all_in_force, none_in_force}
+use Rattle.change_contract.specs.Questions.{is_whole, none_twice, all_in_force, none_in_force, repeats}
 use Rattle.change_contract.proofs.Lists.{whole_long, sides_some, edited_count}
-use Rattle.change_checks.specs.declared.Fault.{Fault}
-use Rattle.change_checks.specs.declared.Fault.TheVariants.{Repeated, Beyond, Absent, Present}
-use Rattle.change_checks.specs.Reading.{Whole, fault_at}
+use Rattle.change_checks.specs.Reading.{Whole, is_beyond, is_absent, is_present}
 
 pub is_whole_lem : (list : List ℕ) → is_whole (length list) ≡ true → Whole list
 is_whole_lem list e = let (few, whole) = whole_long (length list) e in record { few = few; whole = whole }
@@ -28,25 +26,25 @@ empty_whole = record { few = lit≤ tt; whole = refl }
 
 -- ---- 23, 15, 18 and 16
 
-abbrev pub any_fault : Fault → List ℕ → Axioms → List ℕ → Bool
-any_fault fault b F list = some_below (fault_at fault b F list) (axioms_in list)
+abbrev some_axiom : (List ℕ → ℕ → Bool) → List ℕ → Bool
+some_axiom test list = some_below (test list) (axioms_in list)
 
 module _ (b : List ℕ) (F : Axioms) (list : List ℕ) where
-  pub twice_asked : none_twice list ≡ not (any_fault Repeated b F list)
-  unfolding none_twice fault_at
+  pub twice_asked : none_twice list ≡ not (some_axiom repeats list)
+  unfolding none_twice
   twice_asked = refl
 
-  pub beyond_asked : numbers_below b (sides_in list) ≡ not (any_fault Beyond b F list)
-  unfolding sides_in fault_at
+  pub beyond_asked : numbers_below b (sides_in list) ≡ not (some_axiom (is_beyond (concepts b)) list)
+  unfolding sides_in is_beyond
   beyond_asked = sides_some (λ c. ltb c (concepts b)) list (axioms_in list)
 
   -- Of one list alone.
-  pub absent_asked : all_in_force F list ≡ not (any_fault Absent b F (list ++ []))
-  unfolding all_in_force fault_at
+  pub absent_asked : all_in_force F list ≡ not (some_axiom (is_absent F) (list ++ []))
+  unfolding all_in_force is_absent
   absent_asked = ap (λ (l : List ℕ). all_in_force F l) (sym (append-nil list))
 
-  pub present_asked : none_in_force F list ≡ not (any_fault Present b F (list ++ []))
-  unfolding none_in_force fault_at
+  pub present_asked : none_in_force F list ≡ not (some_axiom (is_present F) (list ++ []))
+  unfolding none_in_force is_present
   present_asked = ap (λ (l : List ℕ). none_in_force F l) (sym (append-nil list))
 
 -- ---- 17

@@ -11,9 +11,8 @@ ghost use Rattle.change_contract.specs.Lists.{sides_in};
 ghost use Rattle.change_contract.specs.Questions.{lent, is_whole, none_twice, length_checks, axiom_checks, content_checks, change_checks};
 ghost use Rattle.change_checks.specs.Reading.{Whole};
 
-use super::Fault;
-use super::faults::any_fault;
-use catalogue::{Axiom, Verdict, check};
+use super::faults::{any_absent, any_beyond, any_present, any_repeated};
+use catalogue::{Axiom, Refusal, check};
 use layout::Shape;
 use store::{axiom_count, list_fits, spare_clear, store_fits, work_fits};
 
@@ -35,23 +34,23 @@ fn check_lengths(
     list: usize,
     withdrawn: usize,
     added: usize,
-) -> Verdict
+) -> Result<(), Refusal>
     requires { WellFormed b.now }
     ensures { outcome_of result ≡ length_checks b.now withdrawn added (lent store work list) accepted }
 {
     if !store_fits(b, store) {
-        return Verdict::Refused(10, 0);
+        return Err(Refusal { number: 10, at: 0 });
     }
     if !work_fits(b, work) {
-        return Verdict::Refused(11, 0);
+        return Err(Refusal { number: 11, at: 0 });
     }
     if !list_fits(b, list) {
-        return Verdict::Refused(12, 0);
+        return Err(Refusal { number: 12, at: 0 });
     }
     if !(is_whole(withdrawn) & is_whole(added)) {
-        return Verdict::Refused(22, 0);
+        return Err(Refusal { number: 22, at: 0 });
     }
-    Verdict::Accepted
+    Ok(())
 }
 
 // 18, 16 and 17, where so many axioms are in force.
@@ -62,46 +61,46 @@ fn check_axioms(
     added: &[u8],
     store: &[u8],
     count: usize,
-) -> Verdict
+) -> Result<(), Refusal>
     requires { Shaped b.now s × Whole withdrawn.now × Whole added.now × (count ≤ 4096) × (count ≡ axiom_count b.now (in_force b.now store.now)) × (none_twice (withdrawn.now ++ added.now) ≡ true) × (numbers_below b.now (sides_in (withdrawn.now ++ added.now)) ≡ true) }
     ensures { outcome_of result ≡ axiom_checks b.now withdrawn.now added.now (in_force b.now store.now) }
 {
-    let absent = any_fault(Fault::Absent, b, s, withdrawn, &added[..0], store);
-    let present = any_fault(Fault::Present, b, s, added, &withdrawn[..0], store);
+    let absent = any_absent(b, s, withdrawn, &added[..0], store);
+    let present = any_present(b, s, added, &withdrawn[..0], store);
     if absent {
-        return Verdict::Refused(18, 0);
+        return Err(Refusal { number: 18, at: 0 });
     }
     if present {
-        return Verdict::Refused(16, 0);
+        return Err(Refusal { number: 16, at: 0 });
     }
     let fewer = withdrawn.len() / Axiom::SIZE;
     let more = added.len() / Axiom::SIZE;
     if !(count + more <= Axiom::MAX + fewer) {
-        return Verdict::Refused(17, 0);
+        return Err(Refusal { number: 17, at: 0 });
     }
-    Verdict::Accepted
+    Ok(())
 }
 
 // 23, 13 to 15, and then the rest.
-fn check_content(b: &[u8], withdrawn: &[u8], added: &[u8], store: &[u8]) -> Verdict
+fn check_content(b: &[u8], withdrawn: &[u8], added: &[u8], store: &[u8]) -> Result<(), Refusal>
     requires { Sized b.now store.now × Whole withdrawn.now × Whole added.now }
     ensures { outcome_of result ≡ content_checks b.now withdrawn.now added.now (spare_clear b.now store.now) (axioms_in_limit b.now (in_force b.now store.now)) (in_force b.now store.now) }
 {
     let s = Shape::of(b);
-    let twice = any_fault(Fault::Repeated, b, s, withdrawn, added, store);
-    let beyond = any_fault(Fault::Beyond, b, s, withdrawn, added, store);
+    let twice = any_repeated(withdrawn, added);
+    let beyond = any_beyond(s.concepts, withdrawn, added);
     if twice {
-        return Verdict::Refused(23, 0);
+        return Err(Refusal { number: 23, at: 0 });
     }
     if !spare_clear(b, store) {
-        return Verdict::Refused(13, 0);
+        return Err(Refusal { number: 13, at: 0 });
     }
     let count = axiom_count(b, store);
     if !(count <= Axiom::MAX) {
-        return Verdict::Refused(14, 0);
+        return Err(Refusal { number: 14, at: 0 });
     }
     if beyond {
-        return Verdict::Refused(15, 0);
+        return Err(Refusal { number: 15, at: 0 });
     }
     check_axioms(b, s, withdrawn, added, store, count)
 }
@@ -114,14 +113,12 @@ fn check_checked(
     store: &[u8],
     work: usize,
     list: usize,
-) -> Verdict
+) -> Result<(), Refusal>
     requires { WellFormed b.now }
     ensures { outcome_of result ≡ length_checks b.now (length withdrawn.now) (length added.now) (lent (length store.now) work list) (content_checks b.now withdrawn.now added.now (spare_clear b.now store.now) (axioms_in_limit b.now (in_force b.now store.now)) (in_force b.now store.now)) }
 {
-    match check_lengths(b, store.len(), work, list, withdrawn.len(), added.len()) {
-        Verdict::Refused(number, at) => Verdict::Refused(number, at),
-        Verdict::Accepted => check_content(b, withdrawn, added, store),
-    }
+    check_lengths(b, store.len(), work, list, withdrawn.len(), added.len())?;
+    check_content(b, withdrawn, added, store)
 }
 
 // All of them, with a work space and a list of these lengths.
@@ -132,11 +129,9 @@ pub fn check_all(
     store: &[u8],
     work: usize,
     list: usize,
-) -> Verdict
+) -> Result<(), Refusal>
     ensures { outcome_of result ≡ change_checks b.now withdrawn.now added.now (lent (length store.now) work list) (spare_clear b.now store.now) (axioms_in_limit b.now (in_force b.now store.now)) (in_force b.now store.now) }
 {
-    match check(b) {
-        Verdict::Refused(number, at) => Verdict::Refused(number, at),
-        Verdict::Accepted => check_checked(b, withdrawn, added, store, work, list),
-    }
+    check(b)?;
+    check_checked(b, withdrawn, added, store, work, list)
 }

@@ -6,12 +6,3 @@ pub mod faults; // faults.rt: what is asked of every axiom of the lists
 pub mod asking; // asking.rt: all questions
 
 pub use asking::check_all;
-
-// What an axiom of the lists can be refused for: it repeats one before it (23), a side of it is no concept (15), it is not in force (18), it is (16).
-#[derive(Clone, Copy)]
-pub enum Fault {
-    Repeated,
-    Beyond,
-    Absent,
-    Present,
-}

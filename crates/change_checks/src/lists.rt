@@ -31,13 +31,11 @@ pub fn is_among(first: &[u8], second: &[u8], k: usize, l: usize, r: usize) -> bo
     requires { Whole first.now × Whole second.now × (k ≤ axioms_in (first.now ++ second.now)) }
     ensures { result ≡ among (first.now ++ second.now) k l r }
 {
-    let mut j = 0;
-    while j < k {
+    for j in 0..k {
         let a = axiom_of(first, second, j);
         if (a.left == l) & (a.right == r) {
             return true;
         }
-        j += 1;
     }
     false
 }

@@ -7,8 +7,10 @@ use mathlib.Core.Bool.{Bool, true}
 use mathlib.Core.List.Memᴰ
 use mathlib.Core.List.{List, [], ◌∷◌, ◌++◌}
 use lib.ListN.{length, take-append-drop}
+use Rattle.std.proofs.Common.{Result, Ok}
 use Rattle.booleans.proofs.Booleans.{agree}
 use Rattle.rows.specs.Bits.{some_below}
+use Rattle.catalogue.specs.declared.checks.Refusal.{Refusal}
 use Rattle.catalogue.specs.Words.{bytes_of}
 use Rattle.catalogue.specs.Header.{concepts}
 use Rattle.catalogue.specs.Outcome.{Outcome, accepted, ask}
@@ -27,8 +29,7 @@ use Rattle.store.specs.Checks.{axioms_in_limit, ask_store, ask_work, ask_list, a
 use Rattle.store.proofs.Fresh.{marked_unique}
 use Rattle.number_lists.specs.Lists.{with_front}
 use Rattle.change_contract.specs.declared.Changed.{Changed}
-use Rattle.change_contract.specs.declared.Changed.TheVariants.{Done}
-use Rattle.change_contract.specs.Answers.{outcome_of, removed_of, returned_of, gained_of}
+use Rattle.change_contract.specs.Answers.{outcome_of, removed_of, returned_of, gained_of, changed}
 use Rattle.change_contract.specs.Lists.{axioms_in, sides_below, sides_in, edited}
 use Rattle.change_contract.specs.Questions.{Lengths, is_whole, none_twice, all_in_force, none_in_force, ask_whole, ask_twice, ask_in_force, ask_new, ask_room, length_checks, axiom_checks, content_checks, change_checks}
 use Rattle.change_contract.specs.Edits.{Members, Effects, Lent, lengths, asked, Edits}
@@ -80,7 +81,7 @@ module _ (b : List ℕ) (F : Axioms) (H : Expression → Type 0) where
   none_touched c (inl o) = none_over o.0 o.1
   none_touched c (inr g) = none_gained g.0 g.1
 
-  pub no_effects : (names : List ℕ) (a : Changed) → outcome_of a ≡ accepted → Effects b F F H names a → (a ≡ Done 0 0 0 0) × (names ≡ [])
+  pub no_effects : (names : List ℕ) (a : Result Changed Refusal) → outcome_of a ≡ accepted → Effects b F F H names a → (a ≡ Ok (changed 0 0 0 0)) × (names ≡ [])
   no_effects names a ok p =
       let named : names ≡ [] = none_named (concepts b) (TouchedPartition b F F H) names p.listed none_touched in (
         accepted_answer a ok
@@ -95,7 +96,7 @@ front_none : (list : List ℕ) → with_front [] list ≡ list
 unfolding with_front bytes_of
 front_none list = refl
 
-module _ (b : List ℕ) (u : Lent) (a : Changed) (v : Lent) (p : Edits b [] [] u a v) (ok : asked b [] [] u ≡ accepted) where
+module _ (b : List ℕ) (u : Lent) (a : Result Changed Refusal) (v : Lent) (p : Edits b [] [] u a v) (ok : asked b [] [] u ≡ accepted) where
   abbrev F : Axioms
   F = in_force b u.store
 

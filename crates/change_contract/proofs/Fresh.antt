@@ -4,6 +4,8 @@ use Prim.Native.Nat.{ℕ}
 use mathlib.Core.Path.{◌≡◌, sym, subst}
 use mathlib.Core.Logic.Iff
 use mathlib.Core.List.{List}
+use Rattle.std.proofs.Common.{Result}
+use Rattle.catalogue.specs.declared.checks.Refusal.{Refusal}
 use Rattle.catalogue.specs.Outcome.{accepted}
 use Rattle.derivation.specs.Decided.{Marked as Holding}
 use Rattle.rules.specs.Axioms.{Axioms}
@@ -19,7 +21,7 @@ use Rattle.change_contract.specs.Edits.{Effects, Lent, asked, Edits}
 use Rattle.change_contract.proofs.Checks.{Accepted, edit_accepted}
 use Rattle.change_contract.proofs.Sets.{marked_same, new_set_same, effects_same}
 
-module _ (b withdrawn added : List ℕ) (u : Lent) (a : Changed) (v : Lent) (p : Edits b withdrawn added u a v) (ok : asked b withdrawn added u ≡ accepted)
+module _ (b withdrawn added : List ℕ) (u : Lent) (a : Result Changed Refusal) (v : Lent) (p : Edits b withdrawn added u a v) (ok : asked b withdrawn added u ≡ accepted)
     (F : Axioms) (fresh : Fresh b F u.store) where
   own : in_force b u.store ≡ F
   own = marked-axioms b F u.store fresh

@@ -8,7 +8,7 @@ use mathlib.Core.List.{List, [], ◌∷◌, ◌++◌}
 use lib.Dec.{eqb, ltb, leb}
 use lib.ListN.{length, length-append}
 use borrow.Author.Tests.{eq-eqb, eqb-true, leb-true, ltb-true, not-true, not-false}
-use Rattle.booleans.proofs.Booleans.{both, either, negated, not-both, not_true_false, and_left, and_right, and_both}
+use Rattle.booleans.proofs.Booleans.{either, negated, not-both, not_true_false, and_left, and_right, and_both}
 use Rattle.rows.specs.Bits.{some_below}
 use Rattle.rows.proofs.Counting.{some_at, some_which, none_below}
 use Rattle.catalogue.specs.Words.{word}

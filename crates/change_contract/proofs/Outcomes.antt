@@ -7,7 +7,10 @@ use mathlib.Core.Logic.{◌↔◌}
 use mathlib.Core.Bool.{Bool}
 use mathlib.Core.List.{List}
 use lib.ListN.{drop}
+use Rattle.std.proofs.Common.{Result, Err}
+use Rattle.catalogue.specs.declared.checks.Refusal.{Refusal}
 use Rattle.catalogue.specs.Outcome.{Outcome, accepted, refused}
+use Rattle.catalogue.specs.Verdicts.{refusal}
 use Rattle.catalogue.proofs.Outcomes.{never_both}
 use Rattle.derivation.specs.Decided.{Marked as Holding}
 use Rattle.rules.specs.Axioms.{Axioms}
@@ -21,7 +24,6 @@ use Rattle.store.proofs.Checks.{marked-axioms}
 use Rattle.store.proofs.Work.{work_stays}
 use Rattle.number_lists.specs.Lists.{with_front}
 use Rattle.change_contract.specs.declared.Changed.{Changed}
-use Rattle.change_contract.specs.declared.Changed.TheVariants.{Refused}
 use Rattle.change_contract.specs.Lists.{edited}
 use Rattle.change_contract.specs.Answers.{outcome_of}
 use Rattle.change_contract.specs.Edits.{Effects, Lent, asked, Accepts, Edits}
@@ -30,25 +32,25 @@ use Rattle.change_contract.proofs.Sets.{marked_same, new_set_same, effects_same}
 
 module _ (b withdrawn added : List ℕ) (u : Lent) where
   -- The answer's outcome is that of the checks.
-  pub answer_outcome : (a : Changed) (v : Lent) → Edits b withdrawn added u a v → outcome_of a ≡ asked b withdrawn added u
+  pub answer_outcome : (a : Result Changed Refusal) (v : Lent) → Edits b withdrawn added u a v → outcome_of a ≡ asked b withdrawn added u
   answer_outcome a v p = go (asked b withdrawn added u) refl
     where
       go : (o : Outcome) → asked b withdrawn added u ≡ o → outcome_of a ≡ asked b withdrawn added u
       go accepted e = (p.accepts e).answers ∙ sym e
       go (refused number at) e = (p.refuses number at e).answers ∙ sym e
 
-  pub ends_refused : (number at : ℕ) → asked b withdrawn added u ≡ refused number at → Edits b withdrawn added u (Refused number at) u
+  pub ends_refused : (number at : ℕ) → asked b withdrawn added u ≡ refused number at → Edits b withdrawn added u (Err (refusal number at)) u
   ends_refused number at e =
       record {
         refuses = λ n i q. record { answers = sym e ∙ q; store_kept = refl; work_kept = sym (work_stays (work_used b) n u.work); list_kept = refl };
         accepts = λ q. absurd (never_both (asked b withdrawn added u) q e);
       }
 
-  pub ends_accepted : (a : Changed) (v : Lent) → asked b withdrawn added u ≡ accepted → Accepts b withdrawn added u a v → Edits b withdrawn added u a v
+  pub ends_accepted : (a : Result Changed Refusal) (v : Lent) → asked b withdrawn added u ≡ accepted → Accepts b withdrawn added u a v → Edits b withdrawn added u a v
   ends_accepted a v e p = record { refuses = λ n i q. absurd (never_both (asked b withdrawn added u) e q); accepts = λ q. p }
 
 -- From a fresh store to a fresh store.
-pub record FreshEnd (b withdrawn added : List ℕ) (F : ℕ → ℕ → Bool) (u : Lent) (names : List ℕ) (a : Changed) (v : Lent) : Type 0 where
+pub record FreshEnd (b withdrawn added : List ℕ) (F : ℕ → ℕ → Bool) (u : Lent) (names : List ℕ) (a : Result Changed Refusal) (v : Lent) : Type 0 where
   pub answers : outcome_of a ≡ accepted
   pub effects : Effects b F (edited F withdrawn added) (Closure b F) names a
   pub fresh : Fresh b (edited F withdrawn added) v.store
@@ -56,7 +58,7 @@ pub record FreshEnd (b withdrawn added : List ℕ) (F : ℕ → ℕ → Bool) (u
   pub work_zero : v.work ≡ zeroed (work_used b) u.work
   pub list_is : v.list ≡ with_front names u.list
 
-module _ (b withdrawn added : List ℕ) (F : Axioms) (u : Lent) (names : List ℕ) (a : Changed) (v : Lent) (fresh : Fresh b F u.store) (ok : asked b withdrawn added u ≡ accepted) where
+module _ (b withdrawn added : List ℕ) (F : Axioms) (u : Lent) (names : List ℕ) (a : Result Changed Refusal) (v : Lent) (fresh : Fresh b F u.store) (ok : asked b withdrawn added u ≡ accepted) where
   accepts_own : F ≡ in_force b u.store → FreshEnd b withdrawn added F u names a v → Accepts b withdrawn added u a v
   accepts_own own end =
       let F' = in_force b u.store in

@@ -8,9 +8,11 @@ use mathlib.Core.List.{List, [], ◌∷◌, ◌++◌}
 use lib.Dec.{eqb, ltb}
 use lib.ListN.{length, get_or, length-append}
 use borrow.Author.Tests.{lt-ltb, le-ltb}
+use Rattle.std.proofs.Common.{Result}
 use Rattle.booleans.proofs.Booleans.{agree}
 use Rattle.rows.specs.Bits.{some_below}
 use Rattle.rows.proofs.Counting.{some_at, some_which}
+use Rattle.catalogue.specs.declared.checks.Refusal.{Refusal}
 use Rattle.catalogue.specs.Words.{word, bytes_of}
 use Rattle.catalogue.specs.Header.{concepts}
 use Rattle.catalogue.specs.Outcome.{Outcome, accepted, ask}
@@ -241,7 +243,7 @@ module _ (b withdrawn added withdrawn' added' : List ℕ) (p : Permuted withdraw
     unfolding asked
     asked_alike = checks_alike _ _ _ _
 
-    accepts_alike : (a : Changed) (v : Lent) → Accepts b withdrawn added u a v → Accepts b withdrawn' added' u a v
+    accepts_alike : (a : Result Changed Refusal) (v : Lent) → Accepts b withdrawn added u a v → Accepts b withdrawn' added' u a v
     accepts_alike a v x =
         let F = in_force b u.store in
         let H = Holding (held b u.store) in
@@ -256,7 +258,7 @@ module _ (b withdrawn added withdrawn' added' : List ℕ) (p : Permuted withdraw
           list_is = x.list_is;
         }
 
-    edits_alike : (a : Changed) (v : Lent) → Edits b withdrawn added u a v → Edits b withdrawn' added' u a v
+    edits_alike : (a : Result Changed Refusal) (v : Lent) → Edits b withdrawn added u a v → Edits b withdrawn' added' u a v
     edits_alike a v x =
         record { refuses = λ number at e. x.refuses number at (sym asked_alike ∙ e); accepts = λ e. accepts_alike a v (x.accepts (sym asked_alike ∙ e)) }
 

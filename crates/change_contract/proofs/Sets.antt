@@ -3,6 +3,8 @@ use Prim.Native.Nat.{ℕ}
 use mathlib.Core.Logic.Iff
 use mathlib.Core.Logic.{◌↔◌, inl, inr}
 use mathlib.Core.List.{List}
+use Rattle.std.proofs.Common.{Result}
+use Rattle.catalogue.specs.declared.checks.Refusal.{Refusal}
 use Rattle.catalogue.specs.Header.{concepts}
 use Rattle.rules.specs.Axioms.{Axioms}
 use Rattle.rules.specs.Rules.{Expression, EL, Permits}
@@ -49,7 +51,7 @@ module _ (b : List ℕ) (F G : Axioms) (H K : Expression → Type 0) (same : (e 
   gained_same : (e : Expression) → GainedSet b F G H e ↔ GainedSet b F G K e
   gained_same e = (λ x. ((new_set_same e).0 x.0, λ k. x.1 ((same e).1 k)), λ x. ((new_set_same e).1 x.0, λ h. x.1 ((same e).0 h)))
 
-  pub effects_same : (names : List ℕ) (a : Changed) → Effects b F G H names a → Effects b F G K names a
+  pub effects_same : (names : List ℕ) (a : Result Changed Refusal) → Effects b F G H names a → Effects b F G K names a
   effects_same names a p =
       record {
         removed_counted = size_same b (OverDeleted b F G H) (OverDeleted b F G K) (removed_of a) removed_same p.removed_counted;

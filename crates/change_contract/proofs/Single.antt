@@ -8,8 +8,10 @@ use mathlib.Core.Bool.{Bool, true, not, or-false, not-not}
 use mathlib.Core.List.{List, [], ◌∷◌}
 use lib.Dec.{leb, ltb}
 use borrow.Author.Tests.{leb-true, le-leb, ltb-true, lt-ltb, not-true}
+use Rattle.std.proofs.Common.{Result}
 use Rattle.booleans.proofs.Booleans.{agree}
 use Rattle.rows.specs.Bits.{some_below}
+use Rattle.catalogue.specs.declared.checks.Refusal.{Refusal}
 use Rattle.catalogue.specs.Words.{word, bytes_of}
 use Rattle.catalogue.specs.Header.{concepts}
 use Rattle.catalogue.specs.Outcome.{Outcome, accepted, ask}
@@ -143,7 +145,7 @@ module _ (b : List ℕ) (l r : ℕ) (u : Lent) where
 -- ---- what is answered and left
 
 -- An accepted change, where G is in force afterwards.
-module _ (b withdrawn added : List ℕ) (u : Lent) (a : Changed) (v : Lent) (x : Accepts b withdrawn added u a v) (G : Axioms) (same : edited (in_force b u.store) withdrawn added ≡ G) where
+module _ (b withdrawn added : List ℕ) (u : Lent) (a : Result Changed Refusal) (v : Lent) (x : Accepts b withdrawn added u a v) (G : Axioms) (same : edited (in_force b u.store) withdrawn added ≡ G) where
   effects_to : Effects b (in_force b u.store) G (Holding (held b u.store)) x.names a
   effects_to = subst (λ (E : Axioms). Effects b (in_force b u.store) E (Holding (held b u.store)) x.names a) same x.effects
 
@@ -159,7 +161,7 @@ module _ (b withdrawn added : List ℕ) (u : Lent) (a : Changed) (v : Lent) (x :
       }
 
 -- One axiom added.
-module _ (b : List ℕ) (l r : ℕ) (u : Lent) (a : Changed) (v : Lent) (p : Edits b [] (one l r) u a v) where
+module _ (b : List ℕ) (l r : ℕ) (u : Lent) (a : Result Changed Refusal) (v : Lent) (p : Edits b [] (one l r) u a v) where
   accepts_add : asked b [] (one l r) u ≡ accepted → AcceptsAdd b l r u a v
   accepts_add ok =
       let F = in_force b u.store in
@@ -198,7 +200,7 @@ module _ (b : List ℕ) (l r : ℕ) (u : Lent) (a : Changed) (v : Lent) (p : Edi
       }
 
 -- One axiom withdrawn.
-module _ (b : List ℕ) (l r : ℕ) (u : Lent) (a : Changed) (v : Lent) (p : Edits b (one l r) [] u a v) where
+module _ (b : List ℕ) (l r : ℕ) (u : Lent) (a : Result Changed Refusal) (v : Lent) (p : Edits b (one l r) [] u a v) where
   shrinks : (F : Axioms) (c d : ℕ) → withdrawn F l r c d ≡ true → F c d ≡ true
   shrinks F c d e = ((withdrawn_exact F l r c d).0 e).0
 

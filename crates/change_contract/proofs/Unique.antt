@@ -4,8 +4,11 @@ use native.Mathlib.Omega.{arith}
 use mathlib.Core.Path.{◌≡◌, refl, sym, ap, ap₂, ◌∙◌}
 use mathlib.Core.List.{List, ◌++◌}
 use lib.ListN.{length, take-append-drop}
+use Rattle.std.proofs.Common.{Result, Ok, Err}
+use Rattle.catalogue.specs.declared.checks.Refusal.{Refusal}
 use Rattle.catalogue.specs.Header.{concepts}
 use Rattle.catalogue.specs.Outcome.{Outcome, accepted, refused}
+use Rattle.catalogue.specs.Verdicts.{refusal}
 use Rattle.derivation.specs.Decided.{Marked as Holding}
 use Rattle.rules.specs.Axioms.{Axioms}
 use Rattle.rules.specs.Rules.{Expression}
@@ -15,25 +18,27 @@ use Rattle.layout.specs.Parts.{used, in_force, held}
 use Rattle.store.proofs.Fresh.{marked_unique}
 use Rattle.number_lists.specs.Lists.{with_front}
 use Rattle.change_contract.specs.declared.Changed.{Changed}
-use Rattle.change_contract.specs.declared.Changed.TheVariants.{Done, Refused}
 use Rattle.change_contract.specs.Lists.{edited}
-use Rattle.change_contract.specs.Answers.{outcome_of, removed_of, returned_of, gained_of, touched_of}
+use Rattle.change_contract.specs.Answers.{outcome_of, removed_of, returned_of, gained_of, touched_of, changed}
 use Rattle.change_contract.specs.Edits.{Effects, Lent, lend, asked, Edits}
 use Rattle.change_contract.proofs.Checks.{edit_accepted}
 use Rattle.change_contract.proofs.Members.{members_unique}
 
 -- An answer is decided by its outcome and its four counts.
-pub refused_answer : (a : Changed) {number at : ℕ} → outcome_of a ≡ refused number at → a ≡ Refused number at
-refused_answer (Done removed returned gained touched) e = let z : ◌≡◌ {A = ℕ} 0 1 = cc in absurd (omega arith)
-refused_answer (Refused number at) e = cc
+pub refused_answer : (a : Result Changed Refusal) {number at : ℕ} → outcome_of a ≡ refused number at → a ≡ Err (refusal number at)
+refused_answer (Ok c) e = let z : ◌≡◌ {A = ℕ} 0 1 = cc in absurd (omega arith)
+refused_answer (Err r) {number} {at} e =
+    let n : r.number ≡ number = cc in
+    let k : r.at ≡ at = cc in
+    ap₂ (λ (x y : ℕ). Err (refusal x y)) n k
 
-pub accepted_answer : (a : Changed) {removed returned gained touched : ℕ} → outcome_of a ≡ accepted → removed_of a ≡ removed → returned_of a ≡ returned → gained_of a ≡ gained
-    → touched_of a ≡ touched → a ≡ Done removed returned gained touched
-accepted_answer (Done removed returned gained touched) e p q r s = cc
-accepted_answer (Refused number at) e p q r s = let z : ◌≡◌ {A = ℕ} 0 1 = cc in absurd (omega arith)
+pub accepted_answer : (a : Result Changed Refusal) {removed returned gained touched : ℕ} → outcome_of a ≡ accepted → removed_of a ≡ removed → returned_of a ≡ returned → gained_of a ≡ gained
+    → touched_of a ≡ touched → a ≡ Ok (changed removed returned gained touched)
+accepted_answer (Ok c) e p q r s = simp (← p, ← q, ← r, ← s)
+accepted_answer (Err x) e p q r s = let z : ◌≡◌ {A = ℕ} 0 1 = cc in absurd (omega arith)
 
 -- The effects leave one list of names, and one of each count.
-module _ (b : List ℕ) (F G : Axioms) (H : Expression → Type 0) (names names' : List ℕ) (a a' : Changed) (p : Effects b F G H names a) (q : Effects b F G H names' a') where
+module _ (b : List ℕ) (F G : Axioms) (H : Expression → Type 0) (names names' : List ℕ) (a a' : Result Changed Refusal) (p : Effects b F G H names a) (q : Effects b F G H names' a') where
   names_unique : names ≡ names'
   names_unique = members_unique (concepts b) (TouchedPartition b F G H) names names' p.listed q.listed
 
@@ -49,7 +54,7 @@ module _ (b : List ℕ) (F G : Axioms) (H : Expression → Type 0) (names names'
 pub same_buffers : {u v : Lent} → u.store ≡ v.store → u.work ≡ v.work → u.list ≡ v.list → u ≡ v
 same_buffers {u} {v} s w t = ap₂ (λ (x y : List ℕ). lend x y u.list) s w ∙ ap (lend v.store v.work) t
 
-module _ (b withdrawn added : List ℕ) (u : Lent) (a a' : Changed) (v v' : Lent) (p : Edits b withdrawn added u a v) (q : Edits b withdrawn added u a' v') where
+module _ (b withdrawn added : List ℕ) (u : Lent) (a a' : Result Changed Refusal) (v v' : Lent) (p : Edits b withdrawn added u a v) (q : Edits b withdrawn added u a' v') where
   unique_by : (o : Outcome) → asked b withdrawn added u ≡ o → (a ≡ a') × (v ≡ v')
   unique_by (refused number at) e =
       let x = p.refuses number at e in

@@ -1,6 +1,7 @@
 -- One change with two lists (document 01, Changes, Questions, Edits in a row; document 02, request Four): axioms withdrawn from those in force and axioms
 -- added to them, at once. What it asks, what it answers, and what it leaves in the buffers that it is lent.
-use Rattle.std.specs.Prelude.{ℕ, ◌<◌, ◌≡◌, Bool, List, length, drop}
+use Rattle.std.specs.Prelude.{ℕ, ◌<◌, ◌≡◌, Bool, List, length, drop, Result}
+use Rattle.catalogue.specs.declared.checks.Refusal.{Refusal}
 use Rattle.catalogue.specs.Header.{concepts}
 use Rattle.catalogue.specs.Outcome.{Outcome, accepted, refused}
 use Rattle.derivation.specs.Decided.{Marked as Holding, Decides}
@@ -28,7 +29,7 @@ pub record Members (n : ℕ) (T : ℕ → Type 0) (names : List ℕ) : Type 0 wh
   pub are : names ≡ rising test n
 
 -- A change from F to G, of any held set H: the sizes of what is removed, returned and gained, and the touched concepts, broken or gained, which are listed.
-pub record Effects (b : List ℕ) (F G : ℕ → ℕ → Bool) (H : Expression → Type 0) (names : List ℕ) (answer : Changed) : Type 0 where
+pub record Effects (b : List ℕ) (F G : ℕ → ℕ → Bool) (H : Expression → Type 0) (names : List ℕ) (answer : Result Changed Refusal) : Type 0 where
   pub removed_counted : Size b (OverDeleted b F G H) (removed_of answer)
   pub returned_counted : Size b (ReturnedSet b F G H) (returned_of answer)
   pub gained_counted : Size b (GainedSet b F G H) (gained_of answer)
@@ -54,7 +55,7 @@ unfoldable pub asked : (b withdrawn added : List ℕ) → Lent → Outcome
 asked b withdrawn added u = change_checks b withdrawn added (lengths u) (spare_clear b u.store) (axioms_in_limit b (in_force b u.store)) (in_force b u.store)
 
 -- Refused: number and record are answered, and every buffer keeps its bytes.
-pub record Refuses (b : List ℕ) (number at : ℕ) (u : Lent) (answer : Changed) (v : Lent) : Type 0 where
+pub record Refuses (b : List ℕ) (number at : ℕ) (u : Lent) (answer : Result Changed Refusal) (v : Lent) : Type 0 where
   pub answers : outcome_of answer ≡ refused number at
   pub store_kept : v.store ≡ u.store
   pub work_kept : v.work ≡ work_after at_none (work_used b) number u.work
@@ -62,7 +63,7 @@ pub record Refuses (b : List ℕ) (number at : ℕ) (u : Lent) (answer : Changed
 
 -- Accepted: the store marks the axioms after the change and the new set, for H the pairs and links that it held, right or not; the touched concepts stand
 -- in front of the list, and the work space is zero. Bytes past the used parts and entries past the count are kept.
-pub record Accepts (b withdrawn added : List ℕ) (u : Lent) (answer : Changed) (v : Lent) : Type 0 where
+pub record Accepts (b withdrawn added : List ℕ) (u : Lent) (answer : Result Changed Refusal) (v : Lent) : Type 0 where
   pub answers : outcome_of answer ≡ accepted
   pub names : List ℕ
   pub effects : Effects b (in_force b u.store) (edited (in_force b u.store) withdrawn added) (Holding (held b u.store)) names answer
@@ -72,6 +73,6 @@ pub record Accepts (b withdrawn added : List ℕ) (u : Lent) (answer : Changed) 
   pub list_is : v.list ≡ with_front names u.list
 
 -- A change that withdraws the axioms of `withdrawn` and adds those of `added`.
-pub record Edits (b withdrawn added : List ℕ) (u : Lent) (answer : Changed) (v : Lent) : Type 0 where
+pub record Edits (b withdrawn added : List ℕ) (u : Lent) (answer : Result Changed Refusal) (v : Lent) : Type 0 where
   pub refuses : (number at : ℕ) → asked b withdrawn added u ≡ refused number at → Refuses b number at u answer v
   pub accepts : asked b withdrawn added u ≡ accepted → Accepts b withdrawn added u answer v

@@ -1,5 +1,6 @@
 -- The same axioms in another order (document 02, request Four): "order inside a list without effect".
-use Rattle.std.specs.Prelude.{ℕ, ◌<◌, ◌≡◌, List, length}
+use Rattle.std.specs.Prelude.{ℕ, ◌<◌, ◌≡◌, List, length, Result}
+use Rattle.catalogue.specs.declared.checks.Refusal.{Refusal}
 use Rattle.change_contract.specs.declared.Changed.{Changed}
 use Rattle.change_contract.specs.Lists.{axioms_in, left_in, right_in}
 use Rattle.change_contract.specs.Edits.{Lent, asked, Edits}
@@ -23,5 +24,5 @@ pub record Permuted (xs ys : List ℕ) : Type 0 where
 -- Lists in another order are asked the same, do the same, and end alike: one answer, and every lent byte the same.
 pub record NoEffect (b withdrawn added withdrawn' added' : List ℕ) (u : Lent) : Type 0 where
   pub asked_same : asked b withdrawn' added' u ≡ asked b withdrawn added u
-  pub edits_same : (a : Changed) (v : Lent) → Edits b withdrawn added u a v → Edits b withdrawn' added' u a v
-  pub ends_same : (a a' : Changed) (v v' : Lent) → Edits b withdrawn added u a v → Edits b withdrawn' added' u a' v' → (a' ≡ a) × (v' ≡ v)
+  pub edits_same : (a : Result Changed Refusal) (v : Lent) → Edits b withdrawn added u a v → Edits b withdrawn' added' u a v
+  pub ends_same : (a a' : Result Changed Refusal) (v v' : Lent) → Edits b withdrawn added u a v → Edits b withdrawn' added' u a' v' → (a' ≡ a) × (v' ≡ v)

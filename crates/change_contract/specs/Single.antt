@@ -1,6 +1,7 @@
 -- One axiom in one list (document 02, request Four: "add and withdraw become one change with two lists"): document 01's add and withdraw, by its Changes
 -- and its Questions.
-use Rattle.std.specs.Prelude.{ℕ, ◌≡◌, Bool, not, List, [], ◌∷◌, ltb, length, drop}
+use Rattle.std.specs.Prelude.{ℕ, ◌≡◌, Bool, not, List, [], ◌∷◌, ltb, length, drop, Result}
+use Rattle.catalogue.specs.declared.checks.Refusal.{Refusal}
 use Rattle.catalogue.specs.Words.{bytes_of}
 use Rattle.catalogue.specs.Header.{concepts}
 use Rattle.catalogue.specs.Outcome.{Outcome, accepted, refused, ask}
@@ -54,7 +55,7 @@ withdraw_asked b l r u = withdraw_checks b l r (lengths u) (spare_clear b u.stor
 -- ---- what is answered and left
 
 -- An accepted call: the store marks the axioms G and the set S, the names stand in front of the list, and the work space is zero.
-pub record Leaves (b : List ℕ) (G : ℕ → ℕ → Bool) (S : Expression → Type 0) (names : List ℕ) (u : Lent) (answer : Changed) (v : Lent) : Type 0 where
+pub record Leaves (b : List ℕ) (G : ℕ → ℕ → Bool) (S : Expression → Type 0) (names : List ℕ) (u : Lent) (answer : Result Changed Refusal) (v : Lent) : Type 0 where
   pub answers : outcome_of answer ≡ accepted
   pub marked : Marked b G S v.store
   pub store_rest : drop (used b) v.store ≡ drop (used b) u.store
@@ -66,20 +67,20 @@ pub record Leaves (b : List ℕ) (G : ℕ → ℕ → Bool) (S : Expression → 
 
 -- The axiom (l, r) added to F, of any held set H: S is document 01's new set, removed and returned are 0 ("for an addition the first two are 0"), and
 -- the names are "the partitions that gained".
-pub record AddEffects (b : List ℕ) (l r : ℕ) (F : ℕ → ℕ → Bool) (H S : Expression → Type 0) (names : List ℕ) (answer : Changed) : Type 1 where
+pub record AddEffects (b : List ℕ) (l r : ℕ) (F : ℕ → ℕ → Bool) (H S : Expression → Type 0) (names : List ℕ) (answer : Result Changed Refusal) : Type 1 where
   pub as_worded : worded.Add (EL b) (Permits b F) (Permits b (added F l r)) H S
   pub none_removed : removed_of answer ≡ 0
   pub none_returned : returned_of answer ≡ 0
   pub gained_counted : Size b (GainedSet b F (added F l r) H) (gained_of answer)
   pub listed : Members (concepts b) (GainingPartition b F (added F l r) H) names
 
-pub record AcceptsAdd (b : List ℕ) (l r : ℕ) (u : Lent) (answer : Changed) (v : Lent) : Type 1 where
+pub record AcceptsAdd (b : List ℕ) (l r : ℕ) (u : Lent) (answer : Result Changed Refusal) (v : Lent) : Type 1 where
   pub names : List ℕ
   pub effects : AddEffects b l r (in_force b u.store) (Holding (held b u.store)) (Holding (held b v.store)) names answer
   pub leaves : Leaves b (added (in_force b u.store) l r) (NewSet b (in_force b u.store) (added (in_force b u.store) l r) (Holding (held b u.store))) names u answer v
 
 -- A change with (l, r) alone in the second list is document 01's add, of any store.
-pub record AsAdd (b : List ℕ) (l r : ℕ) (u : Lent) (answer : Changed) (v : Lent) : Type 1 where
+pub record AsAdd (b : List ℕ) (l r : ℕ) (u : Lent) (answer : Result Changed Refusal) (v : Lent) : Type 1 where
   pub asks : asked b [] (one l r) u ≡ add_asked b l r u
   pub refuses : (number at : ℕ) → add_asked b l r u ≡ refused number at → Refuses b number at u answer v
   pub accepts : add_asked b l r u ≡ accepted → AcceptsAdd b l r u answer v
@@ -87,25 +88,25 @@ pub record AsAdd (b : List ℕ) (l r : ℕ) (u : Lent) (answer : Changed) (v : L
 -- ---- withdraw
 
 -- The axiom (l, r) withdrawn from F, of any held set H: what is over-deleted is document 01's, and so is S, the new set.
-pub record WithdrawEffects (b : List ℕ) (l r : ℕ) (F : ℕ → ℕ → Bool) (H S : Expression → Type 0) (answer : Changed) : Type 1 where
+pub record WithdrawEffects (b : List ℕ) (l r : ℕ) (F : ℕ → ℕ → Bool) (H S : Expression → Type 0) (answer : Result Changed Refusal) : Type 1 where
   pub as_worded : worded.Withdraw (EL b) (Permits b F) (Permits b (withdrawn F l r)) H (OverDeleted b F (withdrawn F l r) H) S
   pub removed_counted : Size b (OverDeleted b F (withdrawn F l r) H) (removed_of answer)
   pub returned_counted : Size b (ReturnedSet b F (withdrawn F l r) H) (returned_of answer)
   pub gained_counted : Size b (GainedSet b F (withdrawn F l r) H) (gained_of answer)
 
 -- From a store that is classified afresh from F nothing is gained, and the names are "the broken ones". (A wrong store's list has what gained as well.)
-pub record FreshWithdrawal (b : List ℕ) (l r : ℕ) (F : ℕ → ℕ → Bool) (names : List ℕ) (answer : Changed) : Type 0 where
+pub record FreshWithdrawal (b : List ℕ) (l r : ℕ) (F : ℕ → ℕ → Bool) (names : List ℕ) (answer : Result Changed Refusal) : Type 0 where
   pub none_gained : gained_of answer ≡ 0
   pub listed : Members (concepts b) (BrokenPartition b F (withdrawn F l r) (Closure b F)) names
 
-pub record AcceptsWithdraw (b : List ℕ) (l r : ℕ) (u : Lent) (answer : Changed) (v : Lent) : Type 1 where
+pub record AcceptsWithdraw (b : List ℕ) (l r : ℕ) (u : Lent) (answer : Result Changed Refusal) (v : Lent) : Type 1 where
   pub names : List ℕ
   pub effects : WithdrawEffects b l r (in_force b u.store) (Holding (held b u.store)) (Holding (held b v.store)) answer
   pub fresh : (F : Axioms) → Fresh b F u.store → FreshWithdrawal b l r F names answer
   pub leaves : Leaves b (withdrawn (in_force b u.store) l r) (NewSet b (in_force b u.store) (withdrawn (in_force b u.store) l r) (Holding (held b u.store))) names u answer v
 
 -- A change with (l, r) alone in the first list is document 01's withdraw, of any store, the list of a wrong one apart.
-pub record AsWithdraw (b : List ℕ) (l r : ℕ) (u : Lent) (answer : Changed) (v : Lent) : Type 1 where
+pub record AsWithdraw (b : List ℕ) (l r : ℕ) (u : Lent) (answer : Result Changed Refusal) (v : Lent) : Type 1 where
   pub asks : asked b (one l r) [] u ≡ withdraw_asked b l r u
   pub refuses : (number at : ℕ) → withdraw_asked b l r u ≡ refused number at → Refuses b number at u answer v
   pub accepts : withdraw_asked b l r u ≡ accepted → AcceptsWithdraw b l r u answer v

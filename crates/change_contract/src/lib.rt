@@ -6,12 +6,13 @@ ghost use Rattle.change_contract.specs.Lists.{ReadAt};
 
 use catalogue::Axiom;
 
-// The counts of expressions removed, returned and gained, and of concepts listed as touched; or the number of the question that was answered no, and the
-// record at fault.
+// The counts of expressions removed, returned and gained, and of concepts listed as touched.
 #[derive(Clone, Copy)]
-pub enum Changed {
-    Done(usize, usize, usize, usize),
-    Refused(usize, usize),
+pub struct Changed {
+    pub removed: usize,
+    pub returned: usize,
+    pub gained: usize,
+    pub touched: usize,
 }
 
 // Axiom k of a list of bytes, four for each.

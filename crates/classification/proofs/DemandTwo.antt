@@ -6,6 +6,8 @@ use mathlib.Core.Logic.{◌↔◌}
 use mathlib.Core.Bool.{true, false}
 use mathlib.Core.List.{List}
 use lib.ListN.{length}
+use Rattle.std.proofs.Common.{Result}
+use Rattle.catalogue.specs.declared.checks.Refusal.{Refusal}
 use Rattle.catalogue.specs.Outcome.{accepted}
 use Rattle.rules.specs.Axioms.{catalogue_axioms}
 use Rattle.rules.specs.Occurrence.{Occurs}
@@ -18,7 +20,7 @@ use Rattle.classification.specs.declared.Classified.{Classified}
 use Rattle.classification.specs.Classified.{classify_checks, Classifies}
 use Rattle.classification.proofs.Checks.{accepted_fits}
 
-module _ (b store work : List ℕ) (a : Classified) (s w : List ℕ) (c : Classifies b store work a s w) (ok : classify_checks b (length store) (length work) ≡ accepted) where
+module _ (b store work : List ℕ) (a : Result Classified Refusal) (s w : List ℕ) (c : Classifies b store work a s w) (ok : classify_checks b (length store) (length work) ≡ accepted) where
   -- The store holds just the expressions that the rules derive.
   pub holds_derived : (e : Expression) → (held b s e ≡ true) ↔ Closure b (catalogue_axioms b) e
   holds_derived = (c.accepts ok).fresh.set

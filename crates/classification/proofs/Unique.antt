@@ -4,7 +4,10 @@ use native.Mathlib.Omega.{arith}
 use mathlib.Core.Path.{◌≡◌, refl, sym, ap₂, ◌∙◌}
 use mathlib.Core.List.{List, ◌++◌}
 use lib.ListN.{length, take-append-drop}
+use Rattle.std.proofs.Common.{Result, Ok, Err}
+use Rattle.catalogue.specs.declared.checks.Refusal.{Refusal}
 use Rattle.catalogue.specs.Outcome.{Outcome, accepted, refused}
+use Rattle.catalogue.specs.Verdicts.{refusal}
 use Rattle.rules.specs.Axioms.{catalogue_axioms}
 use Rattle.rules.specs.Rules.{Closure}
 use Rattle.rules.specs.Counts.{Pairs, Links}
@@ -12,20 +15,22 @@ use Rattle.rules.proofs.Counts.{size_unique}
 use Rattle.layout.specs.Parts.{used}
 use Rattle.store.proofs.Fresh.{fresh_unique}
 use Rattle.classification.specs.declared.Classified.{Classified}
-use Rattle.classification.specs.declared.Classified.TheVariants.{Done, Refused}
-use Rattle.classification.specs.Classified.{classify_checks, outcome_of, pairs_of, links_of, Classifies}
+use Rattle.classification.specs.Classified.{classify_checks, outcome_of, pairs_of, links_of, Classifies, classified}
 use Rattle.classification.proofs.Checks.{accepted_fits}
 
 -- An answer is decided by its outcome and its two counts.
-pub refused_answer : (a : Classified) {number at : ℕ} → outcome_of a ≡ refused number at → a ≡ Refused number at
-refused_answer (Done pairs links) e = let z : ◌≡◌ {A = ℕ} 0 1 = cc in absurd (omega arith)
-refused_answer (Refused number at) e = cc
+pub refused_answer : (a : Result Classified Refusal) {number at : ℕ} → outcome_of a ≡ refused number at → a ≡ Err (refusal number at)
+refused_answer (Ok c) e = let z : ◌≡◌ {A = ℕ} 0 1 = cc in absurd (omega arith)
+refused_answer (Err r) {number} {at} e =
+    let n : r.number ≡ number = cc in
+    let k : r.at ≡ at = cc in
+    ap₂ (λ (x y : ℕ). Err (refusal x y)) n k
 
-pub accepted_answer : (a : Classified) {pairs links : ℕ} → outcome_of a ≡ accepted → pairs_of a ≡ pairs → links_of a ≡ links → a ≡ Done pairs links
-accepted_answer (Done pairs links) e p q = cc
-accepted_answer (Refused number at) e p q = let z : ◌≡◌ {A = ℕ} 0 1 = cc in absurd (omega arith)
+pub accepted_answer : (a : Result Classified Refusal) {pairs links : ℕ} → outcome_of a ≡ accepted → pairs_of a ≡ pairs → links_of a ≡ links → a ≡ Ok (classified pairs links)
+accepted_answer (Ok c) e p q = simp (← p, ← q)
+accepted_answer (Err r) e p q = let z : ◌≡◌ {A = ℕ} 0 1 = cc in absurd (omega arith)
 
-module _ (b store work : List ℕ) (a a' : Classified) (s s' w w' : List ℕ) (p : Classifies b store work a s w) (q : Classifies b store work a' s' w') where
+module _ (b store work : List ℕ) (a a' : Result Classified Refusal) (s s' w w' : List ℕ) (p : Classifies b store work a s w) (q : Classifies b store work a' s' w') where
   unique_by : (o : Outcome) → classify_checks b (length store) (length work) ≡ o → (a ≡ a') × (s ≡ s') × (w ≡ w')
   unique_by (refused number at) e =
       let r = p.refuses number at e in

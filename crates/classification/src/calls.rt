@@ -7,8 +7,8 @@ ghost use Rattle.classification.specs.Classified.{UsedParts, Classifying, Classi
 use super::Classified;
 use super::closing::close;
 use axiom_rows::put_axioms;
-use buffers::table;
-use catalogue::{Verdict, check};
+use buffers::{TABLE, zeros};
+use catalogue::{Refusal, check};
 use layout::{Shape, used, work_used};
 use rows::count;
 use store::{store_fits, work_fits};
@@ -19,39 +19,37 @@ fn fill(b: &[u8], store: &mut [u8], work: &mut [u8]) -> Classified
     ensures { Classifying b.now result store.new work.new }
 {
     let s = Shape::of(b);
-    let pairs = s.concepts * s.width;
-    let links = pairs + pairs;
+    let pairs_at = s.concepts * s.width;
+    let links_at = pairs_at + pairs_at;
     let end = store.len();
-    let mut axioms = table();
-    put_axioms(b, s, store, &mut axioms[..pairs]);
-    close(b, s, &axioms[..pairs], &mut store[pairs..end], work);
-    let pair_count = count(&store[pairs..links]);
-    let link_count = count(&store[links..end]);
-    Classified::Done(pair_count, link_count)
+    let mut axioms = zeros::<TABLE>();
+    put_axioms(b, s, store, &mut axioms[..pairs_at]);
+    close(b, s, &axioms[..pairs_at], &mut store[pairs_at..end], work);
+    let pairs = count(&store[pairs_at..links_at]);
+    let links = count(&store[links_at..end]);
+    Classified { pairs, links }
 }
 
 // Questions 10 and 11 of a catalogue that 1 to 9 accept.
-fn classify_checked(b: &[u8], store: &mut [u8], work: &mut [u8]) -> Classified
+fn classify_checked(b: &[u8], store: &mut [u8], work: &mut [u8]) -> Result<Classified, Refusal>
     requires { checked b.now ≡ accepted }
     ensures { Classifies b.now store.old work.old result store.new work.new }
 {
     if !store_fits(b, store.len()) {
-        return Classified::Refused(10, 0);
+        return Err(Refusal { number: 10, at: 0 });
     }
     if !work_fits(b, work.len()) {
-        return Classified::Refused(11, 0);
+        return Err(Refusal { number: 11, at: 0 });
     }
     let store_end = used(b);
     let work_end = work_used(b);
-    fill(b, &mut store[..store_end], &mut work[..work_end])
+    Ok(fill(b, &mut store[..store_end], &mut work[..work_end]))
 }
 
 // Classifies a catalogue of any content and length, into a store and a work space of any content and length.
-pub fn classify(b: &[u8], store: &mut [u8], work: &mut [u8]) -> Classified
+pub fn classify(b: &[u8], store: &mut [u8], work: &mut [u8]) -> Result<Classified, Refusal>
     ensures { Classifies b.now store.old work.old result store.new work.new }
 {
-    match check(b) {
-        Verdict::Refused(number, at) => Classified::Refused(number, at),
-        Verdict::Accepted => classify_checked(b, store, work),
-    }
+    check(b)?;
+    classify_checked(b, store, work)
 }

@@ -6,9 +6,9 @@ pub mod calls; // calls.rt: classify, by questions 1 to 11
 
 pub use calls::classify;
 
-// The counts of pairs and of links; or the number of the question that was answered no, and the record at fault.
+// The counts of pairs and of links.
 #[derive(Clone, Copy)]
-pub enum Classified {
-    Done(usize, usize),
-    Refused(usize, usize),
+pub struct Classified {
+    pub pairs: usize,
+    pub links: usize,
 }

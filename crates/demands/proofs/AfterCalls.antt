@@ -7,6 +7,8 @@ use mathlib.Core.List.Memᴰ
 use mathlib.Core.List.{List, [], ◌∷◌, ◌++◌, append-nil}
 use lib.ListN.{length, take}
 use lib.Seq.{take-length, drop-length}
+use Rattle.std.proofs.Common.{Result}
+use Rattle.catalogue.specs.declared.checks.Refusal.{Refusal}
 use Rattle.catalogue.specs.Outcome.{accepted}
 use Rattle.rules.specs.Axioms.{Axioms, catalogue_axioms, none}
 use Rattle.change_contract.specs.Edits.{Lent, lend, lengths, Edits}
@@ -25,7 +27,7 @@ after_calls_lem P f b store t ts last s F e k long =
 
 -- ---- turns that are lent the whole store
 
-unfoldable pub change_turn : (b withdrawn added : List ℕ) (u : Lent) (answer : Changed) (v : Lent) → Turn
+unfoldable pub change_turn : (b withdrawn added : List ℕ) (u : Lent) (answer : Result Changed Refusal) (v : Lent) → Turn
 change_turn b withdrawn added u answer v =
     record {
       call = record { request = change withdrawn added; catalogue = b; lent = lengths u; from = 0 };
@@ -37,7 +39,7 @@ change_turn b withdrawn added u answer v =
       store_after = v.store;
     }
 
-pub change_runs : (b withdrawn added : List ℕ) (u : Lent) (answer : Changed) (v : Lent) → Edits b withdrawn added u answer v → RunsOn u.store (change_turn b withdrawn added u answer v)
+pub change_runs : (b withdrawn added : List ℕ) (u : Lent) (answer : Result Changed Refusal) (v : Lent) → Edits b withdrawn added u answer v → RunsOn u.store (change_turn b withdrawn added u answer v)
 unfolding change_turn
 change_runs b withdrawn added u answer v call =
     record {
@@ -48,7 +50,7 @@ change_runs b withdrawn added u answer v call =
       store_is = sym (ap (λ (l : List ℕ). v.store ++ l) (drop-length u.store) ∙ append-nil v.store);
     }
 
-unfoldable pub classify_turn : (b store work : List ℕ) (answer : Classified) (store' work' : List ℕ) → Turn
+unfoldable pub classify_turn : (b store work : List ℕ) (answer : Result Classified Refusal) (store' work' : List ℕ) → Turn
 classify_turn b store work answer store' work' =
     record {
       call = record { request = classify; catalogue = b; lent = record { store = length store; work = length work; list = 0 }; from = 0 };
@@ -62,7 +64,7 @@ classify_turn b store work answer store' work' =
 
 -- ---- classify alone
 
-module _ (b store work : List ℕ) (answer : Classified) (store' work' : List ℕ) (call : Classifies b store work answer store' work')
+module _ (b store work : List ℕ) (answer : Result Classified Refusal) (store' work' : List ℕ) (call : Classifies b store work answer store' work')
     (ok : classify_checks b (length store) (length work) ≡ accepted) where
   pub classify_runs : RunsOn store (classify_turn b store work answer store' work')
   unfolding classify_turn

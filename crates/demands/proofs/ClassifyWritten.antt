@@ -6,6 +6,8 @@ use mathlib.Core.Bool.{true}
 use mathlib.Core.List.{List, ◌++◌}
 use lib.ListN.{length, take, drop}
 use lib.Seq.{take_at}
+use Rattle.std.proofs.Common.{Result, Ok}
+use Rattle.catalogue.specs.declared.checks.Refusal.{Refusal}
 use Rattle.catalogue.specs.Outcome.{Outcome, accepted}
 use Rattle.catalogue.specs.Checks.{checked}
 use Rattle.catalogue.specs.WellFormed.{WellFormed}
@@ -21,8 +23,6 @@ use Rattle.store.proofs.Checks.{axioms_few, marked-axioms}
 use Rattle.store.proofs.Fresh.{fresh_unique}
 use Rattle.layout.proofs.StoreRows.{in_force_range}
 use Rattle.writing.specs.Write.{store_checks, write_checks, ByOutcome, wrote, stays}
-use Rattle.writing.specs.declared.Wrote.{Wrote}
-use Rattle.writing.specs.declared.Wrote.TheVariants.{Length}
 use Rattle.demands.specs.Afresh.{ClassifiesAfresh}
 use Rattle.demands.specs.WriteBack.{WriteThenClassify, WrittenClassifies, CallsWriteClassify}
 use Rattle.demands.proofs.Afresh.{fresh_by_classify}
@@ -30,7 +30,7 @@ use Rattle.demands.proofs.AfterCalls.{after_calls_lem}
 
 -- ---- what an accepted write says
 
-by_length : (b store output : List ℕ) (o : Outcome) (answer : Wrote) (k : ℕ) (output' : List ℕ) → ByOutcome b store output o answer output' → answer ≡ Length k
+by_length : (b store output : List ℕ) (o : Outcome) (answer : Result ℕ Refusal) (k : ℕ) (output' : List ℕ) → ByOutcome b store output o answer output' → answer ≡ Ok k
     → (o ≡ accepted)
     × (k ≡ length (written b (in_force b store)))
     × (output' ≡ written b (in_force b store) ++ drop (length (written b (in_force b store))) output)
@@ -54,7 +54,7 @@ asked b store long e =
 
 pub written_classifies_alike : WriteThenClassify
 written_classifies_alike b store output k output' fresh w =
-    let (o, l, e) = by_length b store output (write_checks b store (length output)) (Length k) k output' w refl in
+    let (o, l, e) = by_length b store output (write_checks b store (length output)) (Ok k) k output' w refl in
     let p = asked b store (length output) o in
     let wf : WellFormed b = accepted_well_formed p.catalogue in
     let front : written b (in_force b store) ≡ take k output' = sym (ap (take k) e ∙ take_at _ _ k (sym l)) in

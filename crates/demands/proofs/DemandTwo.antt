@@ -4,12 +4,13 @@ use Prim.Native.Nat.{ℕ}
 use mathlib.Core.Path.{sym, ap, subst, ◌∙◌}
 use mathlib.Core.List.{List}
 use lib.ListN.{take}
+use Rattle.std.proofs.Common.{Result}
+use Rattle.catalogue.specs.declared.checks.Refusal.{Refusal}
 use Rattle.rules.specs.Axioms.{Axioms}
 use Rattle.store.specs.Written.{written}
 use Rattle.store.proofs.WrittenBack.{written_back}
 use Rattle.classification.proofs.Outcomes.{answer_outcome}
 use Rattle.writing.specs.Write.{Writes}
-use Rattle.writing.specs.declared.Wrote.{Wrote}
 use Rattle.writing.proofs.FreshWritten.{writes_long, writes_short}
 use Rattle.lookups.specs.Answers.{looked_up}
 use Rattle.meaning.specs.Meaning.{LookupMeans}
@@ -26,7 +27,7 @@ module _ (b : List ℕ) (F : Axioms) (store : List ℕ) (u : FreshStore b F stor
   means : (c d : ℕ) → LookupMeans b F c d (looked_up b c d store)
   means c d = lookup_means b F store u.catalogue u.range u.few u.fresh c d
 
-  writes_out : (output : List ℕ) (answer : Wrote) (output' : List ℕ) → Writes b store output answer output' → WritesOut (written b F) output answer output'
+  writes_out : (output : List ℕ) (answer : Result ℕ Refusal) (output' : List ℕ) → Writes b store output answer output' → WritesOut (written b F) output answer output'
   writes_out output answer output' w =
       record {
         fits = writes_long b F store u.catalogue u.few u.fresh output answer output' w;

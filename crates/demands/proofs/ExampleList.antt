@@ -9,10 +9,12 @@ use mathlib.Core.Logic.{inr, ⊎_elim}
 use mathlib.Core.List.Memᴰ
 use mathlib.Core.List.{List, [], ◌∷◌, Memᴰ}
 use lib.ListN.{length, take, drop, replicate}
+use Rattle.std.proofs.Common.{Ok, Err}
 use Rattle.catalogue.specs.Words.{word, bytes_of}
 use Rattle.catalogue.specs.Header.{concepts, roles}
 use Rattle.catalogue.specs.Outcome.{accepted, refused}
 use Rattle.catalogue.specs.Examples.{w1}
+use Rattle.catalogue.specs.Verdicts.{refusal}
 use Rattle.catalogue.proofs.Examples.{w1_well_formed, nineteen_bytes}
 use Rattle.rules.specs.Axioms.{Axioms, InRange}
 use Rattle.layout.specs.Parts.{width, used, work_used}
@@ -22,13 +24,13 @@ use Rattle.store.specs.Fresh.{Fresh}
 use Rattle.store.specs.Work.{zeroed}
 use Rattle.store.proofs.Examples.{w1_lengths, w1_axiom_count}
 use Rattle.number_lists.specs.Lists.{with_front}
-use Rattle.classification.specs.declared.Classified.TheVariants as classifying
 use Rattle.change_contract.specs.Lists.{edited}
 use Rattle.change_contract.specs.Edits.{Lent, lend, asked, Edits}
-use Rattle.change_contract.specs.declared.Changed.TheVariants.{Done, Refused}
+use Rattle.change_contract.specs.Answers.{changed as counts}
 use Rattle.change_contract.proofs.Asking.{refused_catalogue, refused_store}
 use Rattle.change_contract.proofs.Checks.{asked_by_axioms}
 use Rattle.change_contract.proofs.Outcomes.{ends_refused, ends_fresh}
+use Rattle.classification.specs.Classified.{classified}
 use Rattle.examples_w1_w6.specs.Stores.{w1_store, w3_store}
 use Rattle.examples_common.specs.Entries.{Changed}
 use Rattle.examples_w1_w6.specs.Table.{axioms1, axioms3}
@@ -106,10 +108,10 @@ module _ (withdrawn added : List ℕ) (F : Axioms) (asks : lists_asked w1 withdr
       change_asked w1 withdrawn added F asks worked.W1_to_W6.W1_accepted few (lent store) fresh (omega (arith, w1_lengths.1)) (omega (arith, seven))
 
   accepted_edits : (x y z : ℕ) (broken gaining after : List ℕ) → Changed w1 F (edited F withdrawn added) x y z broken gaining (0 ∷ 1 ∷ 4 ∷ 5 ∷ [])
-      → Fresh w1 (edited F withdrawn added) after → drop 35 after ≡ drop 35 store → Edits w1 withdrawn added (lent store) (Done x y z 4) (left after)
+      → Fresh w1 (edited F withdrawn added) after → drop 35 after ≡ drop 35 store → Edits w1 withdrawn added (lent store) (Ok (counts x y z 4)) (left after)
   unfolding lent left w1 word concepts roles width used work_used zeroed with_front bytes_of
   accepted_edits x y z broken gaining after c fresh-after rest =
-      ends_fresh w1 withdrawn added F (lent store) (0 ∷ 1 ∷ 4 ∷ 5 ∷ []) (Done x y z 4) (left after) fresh accepted_asked
+      ends_fresh w1 withdrawn added F (lent store) (0 ∷ 1 ∷ 4 ∷ 5 ∷ []) (Ok (counts x y z 4)) (left after) fresh accepted_asked
       (record {
         answers = refl;
         effects =
@@ -126,12 +128,12 @@ module _ (withdrawn added : List ℕ) (F : Axioms) (asks : lists_asked w1 withdr
         list_is = refl;
       })
 
-w3_edits : Edits w1 axiom15 [] (lent w1_store) (Done 10 0 0 4) (left w3_store)
+w3_edits : Edits w1 axiom15 [] (lent w1_store) (Ok (counts 10 0 0 4)) (left w3_store)
 unfolding w1_store w3_store
 w3_edits = accepted_edits axiom15 [] axioms1 w3_asks few1 w1_store worked.W1_to_W6.W1_fresh 10 0 0 _ _ w3_store worked.W1_to_W6.W3 worked.W1_to_W6.W3_fresh refl
 
 -- Refused by 1, with 19 bytes as the catalogue; and by 18.
-bad_edits : Edits (replicate 19 0) axiom15 [] (lent w3_store) (Refused 1 0) (lent w3_store)
+bad_edits : Edits (replicate 19 0) axiom15 [] (lent w3_store) (Err (refusal 1 0)) (lent w3_store)
 unfolding asked
 bad_edits = ends_refused (replicate 19 0) axiom15 [] (lent w3_store) 1 0 (refused_catalogue (replicate 19 0) axiom15 [] _ _ _ _ (nineteen_bytes (replicate 19 0) refl))
 
@@ -143,7 +145,7 @@ middle_short : store_fits w1 10 ≡ false
 unfolding store_fits used width concepts roles word w1
 middle_short = refl
 
-middle_edits : Edits w1 axiom15 [] (lent middle) (Refused 10 0) (lent middle)
+middle_edits : Edits w1 axiom15 [] (lent middle) (Err (refusal 10 0)) (lent middle)
 unfolding asked lent middle w3_store
 middle_edits = ends_refused w1 axiom15 [] (lent middle) 10 0 (refused_store w1 axiom15 [] _ _ _ _ worked.W1_to_W6.W1_accepted middle_short)
 
@@ -153,7 +155,7 @@ middle_turn =
       call = record { request = change axiom15 []; catalogue = w1; lent = record { store = 10; work = 28; list = 14 }; from = 5 };
       work = replicate 28 0;
       list = replicate 14 0;
-      answer = changed (Refused 10 0);
+      answer = changed (Err (refusal 10 0));
       work_after = replicate 28 0;
       list_after = replicate 14 0;
       store_after = w3_store;
@@ -174,20 +176,20 @@ absent_asks : lists_asked w1 axiom15 [] axioms3 ≡ refused 18 0
 unfolding lists_asked w1
 absent_asks = refl
 
-absent_edits : Edits w1 axiom15 [] (lent w3_store) (Refused 18 0) (lent w3_store)
+absent_edits : Edits w1 axiom15 [] (lent w3_store) (Err (refusal 18 0)) (lent w3_store)
 unfolding lent w3_store
 absent_edits =
     ends_refused w1 axiom15 [] (lent w3_store) 18 0
     (asked_by_axioms w1 axioms3 axiom15 [] (lent w3_store) worked.W1_to_W6.W3_fresh few3
     ∙ asked_of_lists w1 axiom15 [] axioms3 _ (refused 18 0) absent_asks worked.W1_to_W6.W1_accepted (omega (arith, w1_lengths.0)) (omega (arith, w1_lengths.1)) (omega (arith, seven)))
 
-w5_edits : Edits w1 [] axiom15 (lent w3_store) (Done 0 0 10 4) (left w1_store)
+w5_edits : Edits w1 [] axiom15 (lent w3_store) (Ok (counts 0 0 10 4)) (left w1_store)
 unfolding w1_store w3_store
 w5_edits =
     accepted_edits [] axiom15 axioms3 w5_asks few3 w3_store worked.W1_to_W6.W3_fresh 0 0 10 _ _ w1_store worked.W1_to_W6.W5
     (subst (λ (F : Axioms). Fresh w1 F w1_store) (sym worked.W1_to_W6.W5_back.0) worked.W1_to_W6.W1_fresh) refl
 
-move_edits : Edits w1 axiom15 axiom06 (lent w1_store) (Done 10 3 0 4) (left moved_store)
+move_edits : Edits w1 axiom15 axiom06 (lent w1_store) (Ok (counts 10 3 0 4)) (left moved_store)
 unfolding w1_store moved_store
 move_edits = accepted_edits axiom15 axiom06 axioms1 move1_asks few1 w1_store worked.W1_to_W6.W1_fresh 10 3 0 _ _ moved_store worked.W1_moves.W1_move1 moved_fresh refl
 
@@ -195,12 +197,12 @@ move_edits = accepted_edits axiom15 axiom06 axioms1 move1_asks few1 w1_store wor
 
 unfoldable pub later : List Turn
 later =
-    change_turn w1 axiom15 [] (lent w1_store) (Done 10 0 0 4) (left w3_store)
-    ∷ change_turn (replicate 19 0) axiom15 [] (lent w3_store) (Refused 1 0) (lent w3_store)
+    change_turn w1 axiom15 [] (lent w1_store) (Ok (counts 10 0 0 4)) (left w3_store)
+    ∷ change_turn (replicate 19 0) axiom15 [] (lent w3_store) (Err (refusal 1 0)) (lent w3_store)
     ∷ middle_turn
-    ∷ change_turn w1 axiom15 [] (lent w3_store) (Refused 18 0) (lent w3_store)
-    ∷ change_turn w1 [] axiom15 (lent w3_store) (Done 0 0 10 4) (left w1_store)
-    ∷ change_turn w1 axiom15 axiom06 (lent w1_store) (Done 10 3 0 4) (left moved_store)
+    ∷ change_turn w1 axiom15 [] (lent w3_store) (Err (refusal 18 0)) (lent w3_store)
+    ∷ change_turn w1 [] axiom15 (lent w3_store) (Ok (counts 0 0 10 4)) (left w1_store)
+    ∷ change_turn w1 axiom15 axiom06 (lent w1_store) (Ok (counts 10 3 0 4)) (left moved_store)
     ∷ []
 
 -- A member of a list is its first, or one of the others.
@@ -213,13 +215,13 @@ w1_sequence =
     let P : Turn → Type 0 = λ x. outcome_of x.answer ≡ accepted → x.call.catalogue ≡ w1 in
     record {
       ran =
-          first (classify_runs w1 (replicate 35 0) (replicate 28 0) (classifying.Done 14 7) w1_store (replicate 28 0) w1_classifies w1-asked)
-          (first (change_runs w1 axiom15 [] (lent w1_store) (Done 10 0 0 4) (left w3_store) w3_edits)
-          (first (change_runs (replicate 19 0) axiom15 [] (lent w3_store) (Refused 1 0) (lent w3_store) bad_edits)
+          first (classify_runs w1 (replicate 35 0) (replicate 28 0) (Ok (classified 14 7)) w1_store (replicate 28 0) w1_classifies w1-asked)
+          (first (change_runs w1 axiom15 [] (lent w1_store) (Ok (counts 10 0 0 4)) (left w3_store) w3_edits)
+          (first (change_runs (replicate 19 0) axiom15 [] (lent w3_store) (Err (refusal 1 0)) (lent w3_store) bad_edits)
           (first middle_runs
-          (first (change_runs w1 axiom15 [] (lent w3_store) (Refused 18 0) (lent w3_store) absent_edits)
-          (first (change_runs w1 [] axiom15 (lent w3_store) (Done 0 0 10 4) (left w1_store) w5_edits)
-          (first (change_runs w1 axiom15 axiom06 (lent w1_store) (Done 10 3 0 4) (left moved_store) move_edits) nothing))))));
+          (first (change_runs w1 axiom15 [] (lent w3_store) (Err (refusal 18 0)) (lent w3_store) absent_edits)
+          (first (change_runs w1 [] axiom15 (lent w3_store) (Ok (counts 0 0 10 4)) (left w1_store) w5_edits)
+          (first (change_runs w1 axiom15 axiom06 (lent w1_store) (Ok (counts 10 3 0 4)) (left moved_store) move_edits) nothing))))));
       begins = refl;
       begins_accepted = refl;
       one_catalogue =

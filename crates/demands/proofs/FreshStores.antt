@@ -6,6 +6,8 @@ use mathlib.Core.Bool.{Bool}
 use mathlib.Core.List.{List, ◌++◌}
 use lib.ListN.{length, take, length-take}
 use lib.Seq.{take-take}
+use Rattle.std.proofs.Common.{Result}
+use Rattle.catalogue.specs.declared.checks.Refusal.{Refusal}
 use Rattle.catalogue.specs.Outcome.{accepted}
 use Rattle.catalogue.specs.Checks.{checked}
 use Rattle.catalogue.specs.WellFormed.{WellFormed}
@@ -36,7 +38,7 @@ unfolding classify_checks
 checked-first b store_length work_length ok = (followed-both (checked b) _ (checks_followed b _ ∙ ok)).0
 
 -- What an accepted classify leaves.
-pub classify_leaves : (b store work : List ℕ) (answer : Classified) (store' work' : List ℕ) → Classifies b store work answer store' work'
+pub classify_leaves : (b store work : List ℕ) (answer : Result Classified Refusal) (store' work' : List ℕ) → Classifies b store work answer store' work'
     → classify_checks b (length store) (length work) ≡ accepted → FreshStore b (catalogue_axioms b) store'
 classify_leaves b store work answer store' work' call ok =
     let wf : WellFormed b = (accepted_fits b _ _ ok).well_formed in

@@ -8,7 +8,9 @@ use mathlib.Core.Logic.{⊎_elim}
 use mathlib.Core.List.{List, ◌++◌}
 use lib.ListN.{length, take, drop, take-append-drop}
 use lib.Seq.{drop-append-le}
+use Rattle.std.proofs.Common.{Result}
 use Rattle.booleans.proofs.Booleans.{by_bool}
+use Rattle.catalogue.specs.declared.checks.Refusal.{Refusal}
 use Rattle.catalogue.specs.Outcome.{accepted, refused}
 use Rattle.rules.specs.Axioms.{Axioms, InRange, catalogue_axioms}
 use Rattle.layout.specs.Parts.{used, in_force, spare_clear}
@@ -99,7 +101,7 @@ pub record Known (b : List ℕ) (F : ℕ → ℕ → Bool) (store : List ℕ) (t
 
 -- ---- classify
 
-module _ (b : List ℕ) (F : Axioms) (store : List ℕ) (t : Turn) (x : RunsOn store t) (a : Classified) (request : t.call.request ≡ classify) (answer : t.answer ≡ classified a)
+module _ (b : List ℕ) (F : Axioms) (store : List ℕ) (t : Turn) (x : RunsOn store t) (a : Result Classified Refusal) (request : t.call.request ≡ classify) (answer : t.answer ≡ classified a)
     (call : Classifies t.call.catalogue (lent_to t store).store t.work a x.part_after t.work_after) where
   classify_answers : outcome_of t.answer ≡ classify_checks t.call.catalogue (length (lent_to t store).store) (length t.work)
   classify_answers = ap outcome_of answer ∙ answer_outcome t.call.catalogue (lent_to t store).store t.work a x.part_after t.work_after call
@@ -148,7 +150,7 @@ part_asked b F store u t x same withdrawn added =
     ∙ sym (refused_store b withdrawn added lent true true F u.catalogue e))
     ∙ ap (λ (q : Lengths). change_checks b withdrawn added q true true F) x.lent_is
 
-module _ (b : List ℕ) (F : Axioms) (store : List ℕ) (u : FreshStore b F store) (t : Turn) (x : RunsOn store t) (withdrawn added : List ℕ) (a : Changed)
+module _ (b : List ℕ) (F : Axioms) (store : List ℕ) (u : FreshStore b F store) (t : Turn) (x : RunsOn store t) (withdrawn added : List ℕ) (a : Result Changed Refusal)
     (request : t.call.request ≡ change withdrawn added) (answer : t.answer ≡ changed a)
     (call : Edits t.call.catalogue withdrawn added (lent_to t store) a (lend x.part_after t.work_after t.list_after)) where
   abbrev left : Lent

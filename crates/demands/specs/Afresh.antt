@@ -1,5 +1,6 @@
 -- Classified afresh by the call itself (document 01, Edits in a row): classify leaves just what is meant when lent the catalogue with F as its axioms.
-use Rattle.std.specs.Prelude.{ℕ, ◌≤◌, ◌≡◌, Bool, List, length, take}
+use Rattle.std.specs.Prelude.{ℕ, ◌≤◌, ◌≡◌, Bool, List, length, take, Result}
+use Rattle.catalogue.specs.declared.checks.Refusal.{Refusal}
 use Rattle.catalogue.specs.Outcome.{accepted}
 use Rattle.catalogue.specs.Checks.{checked}
 use Rattle.rules.specs.Axioms.{InRange}
@@ -15,7 +16,7 @@ pub record ClassifiesAfresh (b : List ℕ) (F : ℕ → ℕ → Bool) (w : List 
   pub same_used : used w ≡ used b
   pub same_work : work_used w ≡ work_used b
   pub accepts : (store_length work_length : ℕ) → used b ≤ store_length → work_used b ≤ work_length → classify_checks w store_length work_length ≡ accepted
-  pub leaves : (store work : List ℕ) (answer : Classified) (store' work' : List ℕ)
+  pub leaves : (store work : List ℕ) (answer : Result Classified Refusal) (store' work' : List ℕ)
       → used b ≤ length store → work_used b ≤ length work → Classifies w store work answer store' work' → Fresh b F store'
 
 -- Classified afresh from F: classify leaves just this when lent the catalogue with F as its axioms (document 01, Edits in a row).
@@ -26,5 +27,5 @@ FreshByClassify =
 -- Classify of w, with a store and a work space of any content that are long enough, leaves the used part of this store.
 abbrev pub ClassifiesAlike : (b store w : List ℕ) → Type 0
 ClassifiesAlike b left w =
-    (store work : List ℕ) (answer : Classified) (store' work' : List ℕ)
+    (store work : List ℕ) (answer : Result Classified Refusal) (store' work' : List ℕ)
     → used b ≤ length store → work_used b ≤ length work → Classifies w store work answer store' work' → take (used b) store' ≡ take (used b) left

@@ -1,5 +1,5 @@
 -- Demand 1, of every public call: what it is refused for, in which order and by which number; that a refusal changes nothing; that all else is accepted.
-use Rattle.std.specs.Prelude.{ℕ, ◌*◌, ◌%◌, ◌≤◌, ◌<◌, ◌≡◌, true, false, ◌⊎◌, length}
+use Rattle.std.specs.Prelude.{ℕ, ◌*◌, ◌%◌, ◌≤◌, ◌<◌, ◌≡◌, true, false, ◌⊎◌, length, Ok}
 use mathlib.Core.List.{List, [], ◌∷◌, ◌++◌, Memᴰ}
 use Rattle.rows.specs.Bits.{bit, place}
 use Rattle.catalogue.specs.Header.{total, concepts}
@@ -14,7 +14,6 @@ use Rattle.store.specs.Written.{axiom_count, written}
 use Rattle.change_contract.specs.Lists.{axioms_in, left_in, right_in, sides_in, edited}
 use Rattle.lookups.specs.Listings.{Lists}
 use Rattle.meaning.specs.Meaning.{KindUnder}
-use Rattle.lookups.specs.declared.kinds.Listed.TheVariants.{Count}
 use Rattle.demands.specs.Sequences.{AfterCalls}
 use Rattle.demands.specs.PublicCalls.{PublicCall, check, classify, change, lookup, listing, row, write, Buffers, Share, share, Returns}
 
@@ -120,7 +119,7 @@ pub record RefusedFirst (b : List ℕ) (u : Buffers) (c : PublicCall) (o : Outco
 
 -- An empty list: no kind that occurs lies under d.
 abbrev pub EmptyTold : List ℕ → Axioms → List ℕ → Type 0
-EmptyTold b F store = (d : ℕ) (list after : List ℕ) → Lists b d store list (Count 0) after → (c : ℕ) → ¬ (KindUnder b F d c)
+EmptyTold b F store = (d : ℕ) (list after : List ℕ) → Lists b d store list (Ok 0) after → (c : ℕ) → ¬ (KindUnder b F d c)
 
 -- Demand 1.
 pub record DemandOne : Type 0 where

@@ -1,7 +1,8 @@
 -- Demand 2: what a store holds and what the answers from it mean, after an accepted classify, and after any list of calls as in demand 3. The call that asks
 -- gets the catalogue that the list got (document 01, Edits in a row), and what it answers is said by the axioms then in force.
-use Rattle.std.specs.Prelude.{ℕ, ◌≡◌, Bool, true, ◌↔◌, ◌⊎◌, List}
+use Rattle.std.specs.Prelude.{ℕ, ◌≡◌, Bool, true, ◌↔◌, ◌⊎◌, List, Result, Ok, false}
 use Rattle.std.specs.Borrow.{Bor}
+use Rattle.catalogue.specs.declared.checks.Refusal.{Refusal}
 use Rattle.catalogue.specs.Outcome.{accepted}
 use Rattle.rules.specs.Axioms.{Axioms, catalogue_axioms}
 use Rattle.rules.specs.Occurrence.{Occurs}
@@ -12,16 +13,12 @@ use Rattle.store.specs.Written.{written}
 use Rattle.classification.specs.Classified.{Classifies, outcome_of}
 use Rattle.classification.specs.declared.Classified.{Classified}
 use Rattle.writing.specs.Write.{Writes}
-use Rattle.writing.specs.declared.Wrote.{Wrote}
 use Rattle.lookups.specs.Answers.{looked_up}
 use Rattle.lookups.specs.Listings.{kinds_under, Lists}
+use Rattle.row_parts.specs.declared.Place.{Place}
 use Rattle.row_parts.specs.Rows.{row_answer, HandsOut}
 use Rattle.meaning.specs.Meaning.{LookupMeans, ListingFinds, RowMeans}
 use Rattle.meaning.specs.Atomic.{AtomicMeans}
-use Rattle.lookups.specs.declared.pairs.Looked.{Looked}
-use Rattle.lookups.specs.declared.pairs.Looked.TheVariants.{Yes, No}
-use Rattle.lookups.specs.declared.kinds.Listed.{Listed}
-use Rattle.row_parts.specs.declared.Handed.{Handed}
 use Rattle.demands.specs.Sequences.{EachFront, AfterCalls}
 use Rattle.demands.specs.WriteBack.{WritesOut}
 
@@ -32,26 +29,26 @@ pub record Meant (b : List ℕ) (F : ℕ → ℕ → Bool) (store : List ℕ) : 
   pub holds : (e : Expression) → (held b store e ≡ true) ↔ Closure b F e
   -- "For two concepts that occur in them, the answer from that store is yes if the first lies within the second in every finite interpretation satisfying
   -- these axioms and the role axioms, and no if one interpretation shows otherwise."
-  pub yes_means : (c d : ℕ) → Occurs b F c → Occurs b F d → (looked_up b c d store ≡ Yes) ↔ Entails b F c d
-  pub no_means : (c d : ℕ) → Occurs b F c → Occurs b F d → (looked_up b c d store ≡ No) ↔ Refuted b F c d
-  pub answers : (c d : ℕ) → Occurs b F c → Occurs b F d → (looked_up b c d store ≡ Yes) ⊎ (looked_up b c d store ≡ No)
+  pub yes_means : (c d : ℕ) → Occurs b F c → Occurs b F d → (looked_up b c d store ≡ Ok true) ↔ Entails b F c d
+  pub no_means : (c d : ℕ) → Occurs b F c → Occurs b F d → (looked_up b c d store ≡ Ok false) ↔ Refuted b F c d
+  pub answers : (c d : ℕ) → Occurs b F c → Occurs b F d → (looked_up b c d store ≡ Ok true) ⊎ (looked_up b c d store ≡ Ok false)
   -- Every lookup, with 15 and 19 exactly where they are due.
-  pub lookups : (c d : ℕ) (r : Looked) → r ≡ looked_up b c d store → LookupMeans b F c d r
+  pub lookups : (c d : ℕ) (r : Result Bool Refusal) → r ≡ looked_up b c d store → LookupMeans b F c d r
   -- A listing names exactly the atomic kinds that occur and lie under D, rising.
-  pub listings : (d : ℕ) (list : List ℕ) (r : Listed) (after : List ℕ) → Lists b d store list r after
+  pub listings : (d : ℕ) (list : List ℕ) (r : Result ℕ Refusal) (after : List ℕ) → Lists b d store list r after
       → ListingFinds b F d (kinds_under b d store) list r after
   -- The bits of a row handed out say the same.
-  pub rows : (c : ℕ) (lent part : Bor (List ℕ)) (r : Handed) → lent.now ≡ store → HandsOut b c lent part → r ≡ row_answer b c lent.now
+  pub rows : (c : ℕ) (lent part : Bor (List ℕ)) (r : Result Place Refusal) → lent.now ≡ store → HandsOut b c lent part → r ≡ row_answer b c lent.now
       → RowMeans b F c r part.now
   -- Every atomic kind occurs: its yes and no mean what they say, a listing under it has it, and 19 is left for tops and composites (document 02, Two).
   pub atomics : AtomicMeans b F store
   -- Write gives the catalogue with these axioms.
-  pub writes : (output : List ℕ) (r : Wrote) (output' : List ℕ) → Writes b store output r output' → WritesOut (written b F) output r output'
+  pub writes : (output : List ℕ) (r : Result ℕ Refusal) (output' : List ℕ) → Writes b store output r output' → WritesOut (written b F) output r output'
 
 -- "After classification": the catalogue's axioms are in force.
 abbrev pub AfterClassify : (List ℕ → Axioms → List ℕ → Type 0) → Type 0
 AfterClassify P =
-    (b store work : List ℕ) (a : Classified) (store' work' : List ℕ) → Classifies b store work a store' work' → outcome_of a ≡ accepted
+    (b store work : List ℕ) (a : Result Classified Refusal) (store' work' : List ℕ) → Classifies b store work a store' work' → outcome_of a ≡ accepted
     → EachFront b store' (P b (catalogue_axioms b))
 
 -- Demand 2.

@@ -1,8 +1,9 @@
 -- Classify and change in a row on one store (document 01, Edits in a row; document 02, request Four): what it is for a list of calls to have run, the axioms
 -- in force by the calls' arguments alone (document 01: the book), and demand 3, one claim about every such list.
-use Rattle.std.specs.Prelude.{ℕ, ◌≤◌, ◌<◌, ◌≡◌, Bool, true, ◌⊎◌, length, take, drop}
+use Rattle.std.specs.Prelude.{ℕ, ◌≤◌, ◌<◌, ◌≡◌, Bool, true, ◌⊎◌, length, take, drop, Result}
 use Rattle.std.proofs.Math.Decide.{ℕ_discrete}
 use mathlib.Core.List.{List, [], ◌∷◌, ◌++◌, map, Memᴰ, List-discrete}
+use Rattle.catalogue.specs.declared.checks.Refusal.{Refusal}
 use Rattle.catalogue.specs.Header.{concepts, roles}
 use Rattle.catalogue.specs.Outcome.{Outcome, accepted, refused}
 use Rattle.rules.specs.Axioms.{Axioms, catalogue_axioms, none}
@@ -37,8 +38,8 @@ pub record Call : Type 0 where
   pub from : ℕ
 
 pub data Answer : Type 0 where
-  classified : Classified → Answer
-  changed : Changed → Answer
+  classified : Result Classified Refusal → Answer
+  changed : Result Changed Refusal → Answer
 
 abbrev pub outcome_of : Answer → Outcome
 outcome_of (classified a) = classifyOutcome a
@@ -58,8 +59,8 @@ pub record Turn : Type 0 where
 
 -- A call met its own contract. Classify is lent no list.
 pub data Meets (b : List ℕ) (u v : Lent) : Request → Answer → Type 0 where
-  classifies : {a : Classified} → Classifies b u.store u.work a v.store v.work → Meets b u v classify (classified a)
-  changes : {withdrawn added : List ℕ} {a : Changed} → Edits b withdrawn added u a v → Meets b u v (change withdrawn added) (changed a)
+  classifies : {a : Result Classified Refusal} → Classifies b u.store u.work a v.store v.work → Meets b u v classify (classified a)
+  changes : {withdrawn added : List ℕ} {a : Result Changed Refusal} → Edits b withdrawn added u a v → Meets b u v (change withdrawn added) (changed a)
 
 -- The part of the store that a call is lent, as long as it says.
 abbrev pub lent_to : Turn → List ℕ → Lent
@@ -155,7 +156,7 @@ pub record SameRows (b : List ℕ) (c : ℕ) (store store' : List ℕ) : Type 0 
 -- An accepted change from F to G: it has the effects of the change on the least set of F, its list has the names of exactly the touched concepts, rising, and
 -- every other concept's rows are the same after as before.
 pub record Changes (b : List ℕ) (F G : ℕ → ℕ → Bool) (store : List ℕ) (t : Turn) : Type 0 where
-  pub answer : Changed
+  pub answer : Result Changed Refusal
   pub names : List ℕ
   pub answer_is : t.answer ≡ changed answer
   pub effects : Effects b F G (Closure b F) names answer

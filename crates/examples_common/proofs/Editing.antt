@@ -7,8 +7,10 @@ use mathlib.Core.Logic.{inl, inr, ⊎_elim}
 use mathlib.Core.List.{List, [], ◌∷◌, ◌++◌}
 use lib.ListN.{length, drop}
 use borrow.Author.Tests.{le-leb}
+use Rattle.std.proofs.Common.{Result}
 use Rattle.booleans.proofs.Booleans.{agree, and_left, by_bool, not-both}
 use Rattle.rows.specs.Bits.{some_below}
+use Rattle.catalogue.specs.declared.checks.Refusal.{Refusal}
 use Rattle.catalogue.specs.Words.{bytes_of}
 use Rattle.catalogue.specs.Header.{concepts}
 use Rattle.catalogue.specs.Outcome.{Outcome, accepted, refused, ask}
@@ -26,10 +28,9 @@ use Rattle.store.specs.Checks.{every, store_fits, work_fits, list_fits, axioms_i
 use Rattle.number_lists.specs.Lists.{with_front}
 use Rattle.change_contract.specs.Lists.{axioms_in, among, listed, sides_below, sides_in, edited}
 use Rattle.change_contract.specs.Questions.{Lengths, is_whole, repeats, none_twice, all_in_force, none_in_force, ask_whole, ask_twice, ask_in_force, ask_new, ask_room, length_checks, axiom_checks, content_checks, change_checks}
-use Rattle.change_contract.specs.Answers.{removed_of, returned_of, gained_of}
+use Rattle.change_contract.specs.Answers.{removed_of, returned_of, gained_of, changed}
 use Rattle.change_contract.specs.Edits.{Lent, lengths, asked, Edits}
 use Rattle.change_contract.specs.declared.Changed as edit
-use Rattle.change_contract.specs.declared.Changed.TheVariants.{Done}
 use Rattle.change_contract.proofs.Lists.{whole_long, listed_exact, edited_exact, edited_in_range, in_force_at}
 use Rattle.change_contract.proofs.Checks.{asked_by_axioms}
 use Rattle.change_contract.proofs.Members.{members_unique}
@@ -87,7 +88,7 @@ module _ (b withdrawn added : List ℕ) (F : Axioms) (asks : lists_asked b withd
         asked_by_axioms b F withdrawn added u fresh few ∙ asked_of_lists b withdrawn added F (lengths u) accepted asks catalogue fresh.long work_long list_long
 
     pub change_gives : (x y z : ℕ) (broken gaining touched : List ℕ) → Changed b F (edited F withdrawn added) x y z broken gaining touched
-        → ChangeGives b withdrawn added F (edited F withdrawn added) (work_used b) (2 * concepts b) (Done x y z (length touched)) (bytes_of touched)
+        → ChangeGives b withdrawn added F (edited F withdrawn added) (work_used b) (2 * concepts b) (changed x y z (length touched)) (bytes_of touched)
     unfolding with_front
     change_gives x y z broken gaining touched c u a v p fresh work_long list_long =
         let G = edited F withdrawn added in
@@ -117,7 +118,7 @@ was_in_force : (F : Axioms) (withdrawn : List ℕ) (c d : ℕ) → edited F with
 was_in_force F withdrawn c d e = ⊎_elim (λ (f, n). f) (λ h. absurd (not-both h (none_listed c d))) ((edited_exact F withdrawn [] c d).0 e)
 
 -- Two empty lists leave a store that is classified afresh as it was.
-pub empty_keeps : (b : List ℕ) (F : Axioms) (u : Lent) (a : edit.Changed) (v : Lent) → Edits b [] [] u a v → Fresh b F u.store → v.store ≡ u.store
+pub empty_keeps : (b : List ℕ) (F : Axioms) (u : Lent) (a : Result edit.Changed Refusal) (v : Lent) → Edits b [] [] u a v → Fresh b F u.store → v.store ≡ u.store
 empty_keeps b F u a v p fresh = go (asked b [] [] u) refl
   where
     go : (o : Outcome) → asked b [] [] u ≡ o → v.store ≡ u.store

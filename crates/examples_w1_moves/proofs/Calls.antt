@@ -11,7 +11,7 @@ use Rattle.catalogue.proofs.Examples.{w1_accepted}
 use Rattle.rules.specs.Axioms.{Axioms}
 use Rattle.store.proofs.Examples.{w1_lengths}
 use Rattle.change_contract.specs.Questions.{lent, change_checks}
-use Rattle.change_contract.specs.declared.Changed.TheVariants.{Done}
+use Rattle.change_contract.specs.Answers.{changed}
 use Rattle.examples_common.specs.Calls.{ChangeGives}
 use Rattle.examples_w1_w6.specs.Table.{axioms1}
 use Rattle.examples_w1_moves.specs.Table.{moved1, moved2, moved3, moved4, unmoved}
@@ -21,29 +21,29 @@ use Rattle.examples_w1_w6.proofs.Reading.{seven}
 use Rattle.examples_w1_moves.proofs.Moves.{move1_asks, move1_change, move2_asks, move2_change, move3_asks, move3_change, move4_asks, move4_change, empty_asks, empty_change}
 use Rattle.examples_w1_w6.proofs.Calls.{w1_few, w1-gives}
 
-pub move1_call : ChangeGives w1 (1 ∷ 0 ∷ 5 ∷ 0 ∷ []) (0 ∷ 0 ∷ 6 ∷ 0 ∷ []) axioms1 moved1 28 14 (Done 10 3 0 4) (0 ∷ 0 ∷ 1 ∷ 0 ∷ 4 ∷ 0 ∷ 5 ∷ 0 ∷ [])
+pub move1_call : ChangeGives w1 (1 ∷ 0 ∷ 5 ∷ 0 ∷ []) (0 ∷ 0 ∷ 6 ∷ 0 ∷ []) axioms1 moved1 28 14 (changed 10 3 0 4) (0 ∷ 0 ∷ 1 ∷ 0 ∷ 4 ∷ 0 ∷ 5 ∷ 0 ∷ [])
 unfolding bytes_of
 move1_call = w1-gives (1 ∷ 0 ∷ 5 ∷ 0 ∷ []) (0 ∷ 0 ∷ 6 ∷ 0 ∷ []) axioms1 move1_asks w1_few 10 3 0 (0 ∷ 1 ∷ 4 ∷ 5 ∷ []) [] (0 ∷ 1 ∷ 4 ∷ 5 ∷ []) move1_change
 
-pub move2_call : ChangeGives w1 (0 ∷ 0 ∷ 4 ∷ 0 ∷ []) (2 ∷ 0 ∷ 4 ∷ 0 ∷ []) axioms1 moved2 28 14 (Done 5 0 5 2) (0 ∷ 0 ∷ 2 ∷ 0 ∷ [])
+pub move2_call : ChangeGives w1 (0 ∷ 0 ∷ 4 ∷ 0 ∷ []) (2 ∷ 0 ∷ 4 ∷ 0 ∷ []) axioms1 moved2 28 14 (changed 5 0 5 2) (0 ∷ 0 ∷ 2 ∷ 0 ∷ [])
 unfolding bytes_of
 move2_call = w1-gives (0 ∷ 0 ∷ 4 ∷ 0 ∷ []) (2 ∷ 0 ∷ 4 ∷ 0 ∷ []) axioms1 move2_asks w1_few 5 0 5 (0 ∷ []) (2 ∷ []) (0 ∷ 2 ∷ []) move2_change
 
-pub move3_call : ChangeGives w1 (1 ∷ 0 ∷ 5 ∷ 0 ∷ []) (0 ∷ 0 ∷ 5 ∷ 0 ∷ []) axioms1 moved3 28 14 (Done 8 0 2 3) (0 ∷ 0 ∷ 1 ∷ 0 ∷ 4 ∷ 0 ∷ [])
+pub move3_call : ChangeGives w1 (1 ∷ 0 ∷ 5 ∷ 0 ∷ []) (0 ∷ 0 ∷ 5 ∷ 0 ∷ []) axioms1 moved3 28 14 (changed 8 0 2 3) (0 ∷ 0 ∷ 1 ∷ 0 ∷ 4 ∷ 0 ∷ [])
 unfolding bytes_of
 move3_call = w1-gives (1 ∷ 0 ∷ 5 ∷ 0 ∷ []) (0 ∷ 0 ∷ 5 ∷ 0 ∷ []) axioms1 move3_asks w1_few 8 0 2 (0 ∷ 1 ∷ 4 ∷ []) (0 ∷ []) (0 ∷ 1 ∷ 4 ∷ []) move3_change
 
-pub move4_call : ChangeGives w1 (0 ∷ 0 ∷ 4 ∷ 0 ∷ 1 ∷ 0 ∷ 5 ∷ 0 ∷ []) (0 ∷ 0 ∷ 6 ∷ 0 ∷ 2 ∷ 0 ∷ 4 ∷ 0 ∷ []) axioms1 moved4 28 14 (Done 12 3 2 5) (0 ∷ 0 ∷ 1 ∷ 0 ∷ 2 ∷ 0 ∷ 4 ∷ 0 ∷ 5 ∷ 0 ∷ [])
+pub move4_call : ChangeGives w1 (0 ∷ 0 ∷ 4 ∷ 0 ∷ 1 ∷ 0 ∷ 5 ∷ 0 ∷ []) (0 ∷ 0 ∷ 6 ∷ 0 ∷ 2 ∷ 0 ∷ 4 ∷ 0 ∷ []) axioms1 moved4 28 14 (changed 12 3 2 5) (0 ∷ 0 ∷ 1 ∷ 0 ∷ 2 ∷ 0 ∷ 4 ∷ 0 ∷ 5 ∷ 0 ∷ [])
 unfolding bytes_of
 move4_call = w1-gives (0 ∷ 0 ∷ 4 ∷ 0 ∷ 1 ∷ 0 ∷ 5 ∷ 0 ∷ []) (0 ∷ 0 ∷ 6 ∷ 0 ∷ 2 ∷ 0 ∷ 4 ∷ 0 ∷ []) axioms1 move4_asks w1_few 12 3 2 (0 ∷ 1 ∷ 4 ∷ 5 ∷ []) (2 ∷ []) (0 ∷ 1 ∷ 2 ∷ 4 ∷ 5 ∷ []) move4_change
 
 pub empty_axioms : unmoved ≡ axioms1
 empty_axioms = none_edited axioms1
 
-pub empty_call : ChangeGives w1 [] [] axioms1 axioms1 28 14 (Done 0 0 0 0) []
+pub empty_call : ChangeGives w1 [] [] axioms1 axioms1 28 14 (changed 0 0 0 0) []
 unfolding bytes_of
 empty_call =
-    subst (λ (G : Axioms). ChangeGives w1 [] [] axioms1 G 28 14 (Done 0 0 0 0) []) empty_axioms
+    subst (λ (G : Axioms). ChangeGives w1 [] [] axioms1 G 28 14 (changed 0 0 0 0) []) empty_axioms
     (w1-gives [] [] axioms1 empty_asks w1_few 0 0 0 [] [] [] empty_change)
 
 -- ---- refused by what is asked of the lists

@@ -15,7 +15,7 @@ use Rattle.store.specs.Written.{numbered, axiom_count}
 use Rattle.store.proofs.Examples.{w1_lengths, w1_axiom_count}
 use Rattle.change_contract.specs.Lists.{edited}
 use Rattle.change_contract.specs.Questions.{all_in_force}
-use Rattle.change_contract.specs.declared.Changed.TheVariants.{Done}
+use Rattle.change_contract.specs.Answers.{changed}
 use Rattle.examples_common.specs.Calls.{ChangeGives}
 use Rattle.examples_common.specs.Entries.{Changed}
 use Rattle.examples_common.specs.Computed.{closure_of}
@@ -44,22 +44,22 @@ w5_axioms = put_back axioms1 (1 ∷ 0 ∷ 5 ∷ 0 ∷ []) in_force15
 -- W1's catalogue, and W7's.
 pub w1-gives : (withdrawn added : List ℕ) (F : Axioms) → lists_asked w1 withdrawn added F ≡ accepted → axiom_count w1 F ≤ 4096
     → (x y z : ℕ) (broken gaining touched : List ℕ) → Changed w1 F (edited F withdrawn added) x y z broken gaining touched
-    → ChangeGives w1 withdrawn added F (edited F withdrawn added) 28 14 (Done x y z (length touched)) (bytes_of touched)
+    → ChangeGives w1 withdrawn added F (edited F withdrawn added) 28 14 (changed x y z (length touched)) (bytes_of touched)
 w1-gives withdrawn added F asks few x y z broken gaining touched c =
-    subst (λ (k : ℕ). ChangeGives w1 withdrawn added F (edited F withdrawn added) k 14 (Done x y z (length touched)) (bytes_of touched)) w1_lengths.1
-    (subst (λ (n : ℕ). ChangeGives w1 withdrawn added F (edited F withdrawn added) (work_used w1) (2 * n) (Done x y z (length touched)) (bytes_of touched)) seven
+    subst (λ (k : ℕ). ChangeGives w1 withdrawn added F (edited F withdrawn added) k 14 (changed x y z (length touched)) (bytes_of touched)) w1_lengths.1
+    (subst (λ (n : ℕ). ChangeGives w1 withdrawn added F (edited F withdrawn added) (work_used w1) (2 * n) (changed x y z (length touched)) (bytes_of touched)) seven
     (change_gives w1 withdrawn added F asks w1_accepted few x y z broken gaining touched c))
 
-pub w3_withdraw : ChangeGives w1 (1 ∷ 0 ∷ 5 ∷ 0 ∷ []) [] axioms1 axioms3 28 14 (Done 10 0 0 4) (0 ∷ 0 ∷ 1 ∷ 0 ∷ 4 ∷ 0 ∷ 5 ∷ 0 ∷ [])
+pub w3_withdraw : ChangeGives w1 (1 ∷ 0 ∷ 5 ∷ 0 ∷ []) [] axioms1 axioms3 28 14 (changed 10 0 0 4) (0 ∷ 0 ∷ 1 ∷ 0 ∷ 4 ∷ 0 ∷ 5 ∷ 0 ∷ [])
 unfolding bytes_of
 w3_withdraw = w1-gives (1 ∷ 0 ∷ 5 ∷ 0 ∷ []) [] axioms1 w3_asks w1_few 10 0 0 (0 ∷ 1 ∷ 4 ∷ 5 ∷ []) [] (0 ∷ 1 ∷ 4 ∷ 5 ∷ []) w3_change
 
-pub w5_add : ChangeGives w1 [] (1 ∷ 0 ∷ 5 ∷ 0 ∷ []) axioms3 axioms1 28 14 (Done 0 0 10 4) (0 ∷ 0 ∷ 1 ∷ 0 ∷ 4 ∷ 0 ∷ 5 ∷ 0 ∷ [])
+pub w5_add : ChangeGives w1 [] (1 ∷ 0 ∷ 5 ∷ 0 ∷ []) axioms3 axioms1 28 14 (changed 0 0 10 4) (0 ∷ 0 ∷ 1 ∷ 0 ∷ 4 ∷ 0 ∷ 5 ∷ 0 ∷ [])
 unfolding bytes_of
 w5_add =
-    subst (λ (G : Axioms). ChangeGives w1 [] (1 ∷ 0 ∷ 5 ∷ 0 ∷ []) axioms3 G 28 14 (Done 0 0 10 4) (0 ∷ 0 ∷ 1 ∷ 0 ∷ 4 ∷ 0 ∷ 5 ∷ 0 ∷ [])) w5_axioms
+    subst (λ (G : Axioms). ChangeGives w1 [] (1 ∷ 0 ∷ 5 ∷ 0 ∷ []) axioms3 G 28 14 (changed 0 0 10 4) (0 ∷ 0 ∷ 1 ∷ 0 ∷ 4 ∷ 0 ∷ 5 ∷ 0 ∷ [])) w5_axioms
     (w1-gives [] (1 ∷ 0 ∷ 5 ∷ 0 ∷ []) axioms3 w5_asks (omega (arith, w3_axiom_count)) 0 0 10 [] (0 ∷ 1 ∷ 4 ∷ 5 ∷ []) (0 ∷ 1 ∷ 4 ∷ 5 ∷ []) w5_change)
 
-pub w6_withdraw : ChangeGives w1 (1 ∷ 0 ∷ 5 ∷ 0 ∷ []) [] axioms6 axioms6' 28 14 (Done 10 1 0 4) (0 ∷ 0 ∷ 1 ∷ 0 ∷ 4 ∷ 0 ∷ 5 ∷ 0 ∷ [])
+pub w6_withdraw : ChangeGives w1 (1 ∷ 0 ∷ 5 ∷ 0 ∷ []) [] axioms6 axioms6' 28 14 (changed 10 1 0 4) (0 ∷ 0 ∷ 1 ∷ 0 ∷ 4 ∷ 0 ∷ 5 ∷ 0 ∷ [])
 unfolding bytes_of
 w6_withdraw = w1-gives (1 ∷ 0 ∷ 5 ∷ 0 ∷ []) [] axioms6 w6_asks (omega (arith, w6_axiom_count)) 10 1 0 (0 ∷ 1 ∷ 4 ∷ 5 ∷ []) [] (0 ∷ 1 ∷ 4 ∷ 5 ∷ []) w6_change

@@ -2,16 +2,18 @@
 use Prim.Native.Nat.{ℕ, ◌*◌, ◌≤◌, ◌<◌}
 use native.Mathlib.Omega.{arith}
 use mathlib.Core.Path.{◌≡◌, refl, ap, subst, fun_ext, ◌∙◌}
-use mathlib.Core.Bool.{Bool, false, false≢true, ◌&&◌}
+use mathlib.Core.Bool.{Bool, false, false≢true, ◌&&◌, true}
 use mathlib.Core.List.{List, [], ◌∷◌, ◌++◌}
 use lib.Dec.{eqb}
 use lib.ListN.{length, take, drop}
 use borrow.Author.Tests.{le-leb}
+use Rattle.std.proofs.Common.{Ok, Err}
 use Rattle.catalogue.specs.Words.{word, bytes_of}
 use Rattle.catalogue.specs.Header.{concepts}
 use Rattle.catalogue.specs.Records.{kind}
 use Rattle.catalogue.specs.Outcome.{accepted, ask}
 use Rattle.catalogue.specs.Examples.{w1}
+use Rattle.catalogue.specs.Verdicts.{refusal}
 use Rattle.catalogue.proofs.Examples.{w1_accepted, w1_well_formed}
 use Rattle.catalogue.proofs.Outcomes.{ask_yes}
 use Rattle.rows.specs.Bits.{byte_bit, bit, count_below, place}
@@ -33,14 +35,11 @@ use Rattle.number_lists.specs.Lists.{with_front}
 use Rattle.read_checks.specs.Checks.{ask_occurs, read_checks, list_checks}
 use Rattle.lookups.specs.Answers.{looked_up}
 use Rattle.lookups.specs.Listings.{atomic_under, kinds_under, listed, list_after}
-use Rattle.row_parts.specs.Rows.{row_answer}
-use Rattle.lookups.specs.declared.pairs.Looked.TheVariants.{Yes, No, Refused}
-use Rattle.row_parts.specs.declared.Handed.TheVariants.{Row}
+use Rattle.row_parts.specs.Rows.{row_answer, placed}
 use Rattle.lookups.proofs.Answered.{looked_up_lem}
 use Rattle.row_parts.proofs.Answered.{row_accepted}
 use Rattle.meaning.proofs.DemandLookup.{content_asks, open_passes, read_asks, lookup_means}
 use Rattle.writing.specs.Write.{write_checks, Writes}
-use Rattle.writing.specs.declared.Wrote.TheVariants.{Length}
 use Rattle.writing.proofs.FreshWritten.{fresh_long}
 use Rattle.writing.proofs.Unique.{by_outcome_unique}
 use Rattle.examples_w1_w6.specs.Stores.{w1_store}
@@ -108,13 +107,13 @@ module _ (store : List ℕ) (fresh : Fresh w1 axioms1 store) where
   asks : (names : List ℕ) → read_checks w1 names store ≡ ask_numbers w1 names (ask_occurs (occurs w1 axioms1) names accepted)
   asks = read_asks w1 axioms1 store w1_accepted range1 few1 fresh
 
-  pub w2_lookups : (looked_up w1 0 3 store ≡ Yes) × (looked_up w1 3 0 store ≡ No)
+  pub w2_lookups : (looked_up w1 0 3 store ≡ Ok true) × (looked_up w1 3 0 store ≡ Ok false)
   w2_lookups = (
     looked_up_lem w1 0 3 store (asks (0 ∷ 3 ∷ []) ∙ named03) (says_pair w1 store 0 3 ∙ (fresh.set (pair 0 3)).1 w2_yes),
     looked_up_lem w1 3 0 store (asks (3 ∷ 0 ∷ []) ∙ named30) (says_pair w1 store 3 0 ∙ not_true_false (held w1 store (pair 3 0)) (λ h. w2_no ((fresh.set (pair 3 0)).0 h))),
   )
 
-  pub w1_row : (row_answer w1 0 store ≡ Row 7 1) × (take 1 (drop 7 store) ≡ 89 ∷ [])
+  pub w1_row : (row_answer w1 0 store ≡ Ok (placed 7 1)) × (take 1 (drop 7 store) ≡ 89 ∷ [])
   unfolding word concepts w1 width pair_row_at w1_store
   w1_row = (row_accepted w1 0 store (asks (0 ∷ []) ∙ named0), ap (λ (l : List ℕ). take 1 (drop 7 l)) (w1_split store fresh))
 
@@ -151,15 +150,15 @@ module _ (store : List ℕ) (fresh : Fresh w1 axioms1 store) where
       )
 
   -- Write into an output that is long enough.
-  pub w1_writes : (output : List ℕ) → 80 ≤ length output → Writes w1 store output (Length 80) (w1 ++ drop 80 output)
+  pub w1_writes : (output : List ℕ) → 80 ≤ length output → Writes w1 store output (Ok 80) (w1 ++ drop 80 output)
   unfolding w1
   w1_writes output long =
-      subst (λ (c : List ℕ). Writes w1 store output (Length (length c)) (c ++ drop (length c) output)) w1-written
+      subst (λ (c : List ℕ). Writes w1 store output (Ok (length c)) (c ++ drop (length c) output)) w1-written
       (fresh_long w1 axioms1 store w1_accepted few1 fresh output (omega (arith, ap length w1-written)))
 
   pub w1_write : WriteGives w1 store 80 w1
   w1_write output answer output' w long =
-      by_outcome_unique w1 store output (write_checks w1 store (length output)) answer (Length 80) output' (w1 ++ drop 80 output) w (w1_writes output long)
+      by_outcome_unique w1 store output (write_checks w1 store (length output)) answer (Ok 80) output' (w1 ++ drop 80 output) w (w1_writes output long)
 
 -- ---- W4
 
@@ -170,7 +169,7 @@ w4_unmarked = refl
 pub w4_absent : ¬ (Occurs w1 axioms3 5)
 w4_absent o = not-both ((occurs_exact w1 axioms3 w1_well_formed range3 5).1 o) w4_unmarked
 
-pub w4_lookups : (store : List ℕ) → Fresh w1 axioms3 store → (x : ℕ) → x < 7 → (looked_up w1 5 x store ≡ Refused 19 0) × (looked_up w1 x 5 store ≡ Refused 19 0)
+pub w4_lookups : (store : List ℕ) → Fresh w1 axioms3 store → (x : ℕ) → x < 7 → (looked_up w1 5 x store ≡ Err (refusal 19 0)) × (looked_up w1 x 5 store ≡ Err (refusal 19 0))
 w4_lookups store fresh x l =
     let means = lookup_means w1 axioms3 store w1_accepted range3 few3 fresh in
     let five : 5 < concepts w1 = omega (arith, seven) in

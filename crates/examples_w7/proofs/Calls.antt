@@ -11,7 +11,7 @@ use Rattle.rules.specs.Axioms.{Axioms}
 use Rattle.layout.specs.Parts.{work_used}
 use Rattle.store.specs.Written.{numbered, axiom_count}
 use Rattle.change_contract.specs.Lists.{edited}
-use Rattle.change_contract.specs.declared.Changed.TheVariants.{Done}
+use Rattle.change_contract.specs.Answers.{changed}
 use Rattle.examples_w7.specs.Catalogues.{w7}
 use Rattle.examples_common.specs.Calls.{ChangeGives}
 use Rattle.examples_common.specs.Entries.{Changed}
@@ -34,16 +34,16 @@ w7_few = omega (arith, w7_axiom_count)
 
 w7-gives : (withdrawn added : List ℕ) (F : Axioms) → lists_asked w7 withdrawn added F ≡ accepted → axiom_count w7 F ≤ 4096
     → (x y z : ℕ) (broken gaining touched : List ℕ) → Changed w7 F (edited F withdrawn added) x y z broken gaining touched
-    → ChangeGives w7 withdrawn added F (edited F withdrawn added) 3 6 (Done x y z (length touched)) (bytes_of touched)
+    → ChangeGives w7 withdrawn added F (edited F withdrawn added) 3 6 (changed x y z (length touched)) (bytes_of touched)
 w7-gives withdrawn added F asks few x y z broken gaining touched c =
-    subst (λ (k : ℕ). ChangeGives w7 withdrawn added F (edited F withdrawn added) k 6 (Done x y z (length touched)) (bytes_of touched)) w7_lengths.1
-    (subst (λ (n : ℕ). ChangeGives w7 withdrawn added F (edited F withdrawn added) (work_used w7) (2 * n) (Done x y z (length touched)) (bytes_of touched)) three
+    subst (λ (k : ℕ). ChangeGives w7 withdrawn added F (edited F withdrawn added) k 6 (changed x y z (length touched)) (bytes_of touched)) w7_lengths.1
+    (subst (λ (n : ℕ). ChangeGives w7 withdrawn added F (edited F withdrawn added) (work_used w7) (2 * n) (changed x y z (length touched)) (bytes_of touched)) three
     (change_gives w7 withdrawn added F asks w7_accepted few x y z broken gaining touched c))
 
-pub w7_withdraw : ChangeGives w7 (0 ∷ 0 ∷ 1 ∷ 0 ∷ []) [] axioms7 axioms7' 3 6 (Done 2 0 0 1) (0 ∷ 0 ∷ [])
+pub w7_withdraw : ChangeGives w7 (0 ∷ 0 ∷ 1 ∷ 0 ∷ []) [] axioms7 axioms7' 3 6 (changed 2 0 0 1) (0 ∷ 0 ∷ [])
 unfolding bytes_of
 w7_withdraw = w7-gives (0 ∷ 0 ∷ 1 ∷ 0 ∷ []) [] axioms7 w7_asks w7_few 2 0 0 (0 ∷ []) [] (0 ∷ []) w7_change
 
-pub move7_call : ChangeGives w7 (0 ∷ 0 ∷ 1 ∷ 0 ∷ []) (0 ∷ 0 ∷ 2 ∷ 0 ∷ []) axioms7 moved7 3 6 (Done 2 2 0 1) (0 ∷ 0 ∷ [])
+pub move7_call : ChangeGives w7 (0 ∷ 0 ∷ 1 ∷ 0 ∷ []) (0 ∷ 0 ∷ 2 ∷ 0 ∷ []) axioms7 moved7 3 6 (changed 2 2 0 1) (0 ∷ 0 ∷ [])
 unfolding bytes_of
 move7_call = w7-gives (0 ∷ 0 ∷ 1 ∷ 0 ∷ []) (0 ∷ 0 ∷ 2 ∷ 0 ∷ []) axioms7 move7_asks w7_few 2 2 0 (0 ∷ []) [] (0 ∷ []) move7_change

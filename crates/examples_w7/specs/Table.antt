@@ -4,7 +4,7 @@ use Rattle.std.specs.Prelude.{◌≡◌, [], ◌∷◌, take, drop}
 use Rattle.rules.specs.Axioms.{Axioms, catalogue_axioms}
 use Rattle.store.specs.Fresh.{Fresh}
 use Rattle.change_contract.specs.Lists.{edited}
-use Rattle.change_contract.specs.declared.Changed.TheVariants.{Done}
+use Rattle.change_contract.specs.Answers.{changed}
 use Rattle.examples_w7.specs.Catalogues.{w7}
 use Rattle.examples_w7.specs.Stores.{w7_store}
 use Rattle.examples_common.specs.Calls.{ClassifyGives, ChangeGives}
@@ -24,7 +24,7 @@ pub record Table : Type 0 where
   -- W7: 7 pairs; withdraw (0,1): removed 2, returned 0, touched 0, 5 pairs left: 0 keeps its own.
   pub W7 : Classified w7 axioms7 7 0 (7 ∷ 6 ∷ 6 ∷ [])
   pub W7_change : Changed w7 axioms7 axioms7' 2 0 0 (0 ∷ []) [] (0 ∷ [])
-  pub W7_withdraw : ChangeGives w7 (0 ∷ 0 ∷ 1 ∷ 0 ∷ []) [] axioms7 axioms7' 3 6 (Done 2 0 0 1) (0 ∷ 0 ∷ [])
+  pub W7_withdraw : ChangeGives w7 (0 ∷ 0 ∷ 1 ∷ 0 ∷ []) [] axioms7 axioms7' 3 6 (changed 2 0 0 1) (0 ∷ 0 ∷ [])
   pub W7_left : Classified w7 axioms7' 5 0 (1 ∷ 6 ∷ 6 ∷ [])
   -- Classify answers 7 pairs and no link, and leaves W7's store of 6 bytes: rows of axioms, and then the pair rows 7, 6, 6.
   pub W7_classify : ClassifyGives w7 6 3 7 0 w7_store
@@ -32,5 +32,5 @@ pub record Table : Type 0 where
   pub W7_fresh : Fresh w7 axioms7 w7_store
   -- W7, (0,1) out and (0,2) in: removed 2, returned 2, gained 0; touched 0; all 7 pairs are left.
   pub W7_move : Changed w7 axioms7 moved7 2 2 0 (0 ∷ []) [] (0 ∷ [])
-  pub W7_move_call : ChangeGives w7 (0 ∷ 0 ∷ 1 ∷ 0 ∷ []) (0 ∷ 0 ∷ 2 ∷ 0 ∷ []) axioms7 moved7 3 6 (Done 2 2 0 1) (0 ∷ 0 ∷ [])
+  pub W7_move_call : ChangeGives w7 (0 ∷ 0 ∷ 1 ∷ 0 ∷ []) (0 ∷ 0 ∷ 2 ∷ 0 ∷ []) axioms7 moved7 3 6 (changed 2 2 0 1) (0 ∷ 0 ∷ [])
   pub W7_move_left : Classified w7 moved7 7 0 (7 ∷ 6 ∷ 6 ∷ [])

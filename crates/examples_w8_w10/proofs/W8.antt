@@ -10,6 +10,7 @@ use lib.Dec.{eqb}
 use lib.ListN.{length, take, replicate, length-append, length-replicate, length-take}
 use lib.Seq.{take_all}
 use borrow.Author.Tests.{eq-eqb}
+use Rattle.std.proofs.Common.{Ok, Err}
 use Rattle.catalogue.proofs.Examples.{checks_compute}
 use Rattle.catalogue.specs.Words.{word, bytes_of}
 use Rattle.catalogue.specs.Header.{concepts, roles, axioms, axioms_at}
@@ -18,6 +19,7 @@ use Rattle.catalogue.specs.Outcome.{accepted}
 use Rattle.catalogue.specs.Examples.{w1}
 use Rattle.catalogue.specs.Checks.{checked}
 use Rattle.catalogue.specs.WellFormed.{WellFormed}
+use Rattle.catalogue.specs.Verdicts.{refusal}
 use Rattle.catalogue.proofs.Accepted.{accepted_well_formed}
 use Rattle.rows.specs.Bits.{Bytes, place, set_bit, set_if, count_below}
 use Rattle.rows.proofs.Bits.{bit_zeros, bytes_zero}
@@ -46,11 +48,10 @@ use Rattle.store.proofs.Says.{says_pair}
 use Rattle.store.proofs.WrittenBytes.{bytes_append}
 use Rattle.axiom_rows.proofs.Cleared.{clear_table}
 use Rattle.classification.proofs.WithoutAxioms.{on_diagonal, atomic_marks}
-use Rattle.change_contract.specs.declared.Changed.TheVariants.{Done}
+use Rattle.change_contract.specs.Answers as answer
 use Rattle.change_contract.proofs.Members.{on_list}
 use Rattle.lookups.specs.Answers.{looked_up}
 use Rattle.meaning.specs.Atomic.{AtomicMeans}
-use Rattle.lookups.specs.declared.pairs.Looked.TheVariants.{Yes, No, Refused}
 use Rattle.meaning.proofs.DemandLookup.{meant, lookup_means}
 use Rattle.meaning.proofs.DemandAtomic.{atomic_means}
 use Rattle.examples_w8_w10.specs.Catalogues.{w8}
@@ -177,10 +178,10 @@ module _ (b store : List ℕ) (catalogue : checked b ≡ accepted) (front : take
   means : AtomicMeans b none store
   means = atomic_means b none store catalogue (none_in_range b) few fresh
 
-  pub w8_itself : (c : ℕ) → Atomic b c → looked_up b c c store ≡ Yes
+  pub w8_itself : (c : ℕ) → Atomic b c → looked_up b c c store ≡ Ok true
   w8_itself c a = (means.yes_means c c a a).1 (λ i s x o h. h)
 
-  pub w8_others : (c d : ℕ) → Atomic b c → Atomic b d → ¬ (c ≡ d) → looked_up b c d store ≡ No
+  pub w8_others : (c d : ℕ) → Atomic b c → Atomic b d → ¬ (c ≡ d) → looked_up b c d store ≡ Ok false
   w8_others c d x y apart =
       (means.no_means c d x y).1
       ((meant b none store catalogue (none_in_range b) few fresh c d ((w8_occur b c).1 x) ((w8_occur b d).1 y)).1.0
@@ -188,7 +189,7 @@ module _ (b store : List ℕ) (catalogue : checked b ≡ accepted) (front : take
       ∙ not_true_false (held b store (pair c d))
       (λ h. let (z, _, e) = (w8_derived b (accepted_well_formed catalogue) (pair c d)).0 ((fresh.set (pair c d)).0 h) in apart (let p : c ≡ d = cc in p))))
 
-  pub w8_absent : (c d : ℕ) → c < concepts b → d < concepts b → ¬ (Atomic b c × Atomic b d) → looked_up b c d store ≡ Refused 19 0
+  pub w8_absent : (c d : ℕ) → c < concepts b → d < concepts b → ¬ (Atomic b c × Atomic b d) → looked_up b c d store ≡ Err (refusal 19 0)
   w8_absent c d lc ld out =
       (lookup_means b none store catalogue (none_in_range b) few fresh c d).absent.1 (lc, ld, λ (o, p). out ((w8_occur b c).0 o, (w8_occur b d).0 p))
 
@@ -241,9 +242,9 @@ w8_computed = (refl, refl, refl, refl, refl, refl)
 pub w8_change : Changed w8 none axioms8 0 0 4 [] (0 ∷ 4 ∷ []) (0 ∷ 4 ∷ [])
 w8_change = changed w8 none axioms8 w8_well_formed (none_in_range w8) range8 0 0 4 [] (0 ∷ 4 ∷ []) (0 ∷ 4 ∷ []) w8_computed
 
-pub w8-add : ChangeGives w8 [] (0 ∷ 0 ∷ 4 ∷ 0 ∷ []) none axioms8 28 14 (Done 0 0 4 2) (0 ∷ 0 ∷ 4 ∷ 0 ∷ [])
+pub w8-add : ChangeGives w8 [] (0 ∷ 0 ∷ 4 ∷ 0 ∷ []) none axioms8 28 14 (answer.changed 0 0 4 2) (0 ∷ 0 ∷ 4 ∷ 0 ∷ [])
 unfolding bytes_of
 w8-add =
-    subst (λ (k : ℕ). ChangeGives w8 [] (0 ∷ 0 ∷ 4 ∷ 0 ∷ []) none axioms8 k 14 (Done 0 0 4 2) (0 ∷ 0 ∷ 4 ∷ 0 ∷ [])) w8_lengths.1
-    (subst (λ (n : ℕ). ChangeGives w8 [] (0 ∷ 0 ∷ 4 ∷ 0 ∷ []) none axioms8 (work_used w8) (2 * n) (Done 0 0 4 2) (0 ∷ 0 ∷ 4 ∷ 0 ∷ [])) w8_seven
+    subst (λ (k : ℕ). ChangeGives w8 [] (0 ∷ 0 ∷ 4 ∷ 0 ∷ []) none axioms8 k 14 (answer.changed 0 0 4 2) (0 ∷ 0 ∷ 4 ∷ 0 ∷ [])) w8_lengths.1
+    (subst (λ (n : ℕ). ChangeGives w8 [] (0 ∷ 0 ∷ 4 ∷ 0 ∷ []) none axioms8 (work_used w8) (2 * n) (answer.changed 0 0 4 2) (0 ∷ 0 ∷ 4 ∷ 0 ∷ [])) w8_seven
     (change_gives w8 [] (0 ∷ 0 ∷ 4 ∷ 0 ∷ []) none w8_asks w8_accepted (omega (arith, no_axioms_counted w8)) 0 0 4 [] (0 ∷ 4 ∷ []) (0 ∷ 4 ∷ []) w8_change))

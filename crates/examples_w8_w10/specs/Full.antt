@@ -1,8 +1,10 @@
 -- What W10 says of a change where 4,096 axioms are in force.
-use Rattle.std.specs.Prelude.{ℕ, ◌*◌, ◌≤◌, ◌≡◌, Bool, true, false, List, [], ◌++◌, length}
+use Rattle.std.specs.Prelude.{ℕ, ◌*◌, ◌≤◌, ◌≡◌, Bool, true, false, List, [], ◌++◌, length, Result, Err}
+use Rattle.catalogue.specs.declared.checks.Refusal.{Refusal}
 use Rattle.catalogue.specs.Header.{concepts}
 use Rattle.catalogue.specs.Outcome.{accepted}
 use Rattle.catalogue.specs.Checks.{checked}
+use Rattle.catalogue.specs.Verdicts.{refusal}
 use Rattle.layout.specs.Parts.{used, work_used, in_force, spare_clear}
 use Rattle.store.specs.Written.{axiom_count}
 use Rattle.store.specs.Checks.{numbers_below}
@@ -12,7 +14,6 @@ use Rattle.change_contract.specs.Answers.{outcome_of}
 use Rattle.change_contract.specs.Edits.{Lent, Edits}
 use Rattle.change_contract.specs.Single.{one}
 use Rattle.change_contract.specs.declared.Changed.{Changed}
-use Rattle.change_contract.specs.declared.Changed.TheVariants as edit
 
 -- A change is lent what questions 1 to 15, 22 and 23 ask for, with 4,096 axioms in force.
 pub record Full (b withdrawn added : List ℕ) (u : Lent) : Type 0 where
@@ -30,14 +31,14 @@ pub record Full (b withdrawn added : List ℕ) (u : Lent) : Type 0 where
 -- A change, lent these buffers, refuses by this number, and every buffer keeps its bytes.
 abbrev pub ChangeRefuses : (b withdrawn added : List ℕ) (u : Lent) (number : ℕ) → Type 0
 ChangeRefuses b withdrawn added u number =
-    (answer : Changed) (v : Lent)
+    (answer : Result Changed Refusal) (v : Lent)
     → Edits b withdrawn added u answer v
-    → (answer ≡ edit.Refused number 0) × (v ≡ u)
+    → (answer ≡ Err (refusal number 0)) × (v ≡ u)
 
 -- A change, lent these buffers, is accepted; in force are then those that were, without the one list's and with the other's, 4,096 again.
 abbrev pub ChangeKeepsFull : (b withdrawn added : List ℕ) (u : Lent) → Type 0
 ChangeKeepsFull b withdrawn added u =
-    (answer : Changed) (v : Lent)
+    (answer : Result Changed Refusal) (v : Lent)
     → Edits b withdrawn added u answer v
     → (outcome_of answer ≡ accepted) × (in_force b v.store ≡ edited (in_force b u.store) withdrawn added) × (axiom_count b (in_force b v.store) ≡ 4096)
 

@@ -1,5 +1,5 @@
 // The calls for C and Rust. The crate exports_c gives each its plain name for C.
-#![tactic(auto)]
+#![tactic(auto, using(replies::proofs::Refusals::exporting))]
 
 ghost use Rattle.replies.specs.Check.{CheckExported};
 ghost use Rattle.replies.specs.Classify.{ClassifyExported};

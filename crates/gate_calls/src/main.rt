@@ -7,39 +7,31 @@
 
 ghost use Rattle.std.specs.Prelude.{◌+◌, ◌≤◌, ◌<◌, length, IfOk};
 
-use row_parts::Handed;
 use std::io;
 use test_cases::{
     end_at, fill, least, read_full, say, say_checksum, say_refused, say_reply, short_at,
 };
-use writing::Wrote;
 
 // Writes the catalogue with the axioms in force.
 fn run_write(rt: &impl Print, b: &[u8], store: &[u8], output: &mut [u8]) -> io::Result<()> {
-    let answer = writing::write(b, store, output);
-    match answer {
-        Wrote::Length(long) => say(rt, b"length ", long),
-        Wrote::Refused(number, record) => say_refused(rt, number, record),
+    match writing::write(b, store, output) {
+        Ok(long) => say(rt, b"length ", long),
+        Err(e) => say_refused(rt, e.number, e.at),
     }
 }
 
-// Writes a row's answer, and the length and the checksum of its part.
-fn say_row(rt: &impl Print, part: &[u8], answer: Handed) -> io::Result<()> {
-    match answer {
-        Handed::Row(offset, width) => {
-            say(rt, b"row ", offset)?;
-            say(rt, b" ", width)?;
-        }
-        Handed::Refused(number, record) => say_refused(rt, number, record)?,
-    }
-    say(rt, b" part ", part.len())?;
-    say_checksum(rt, b" ", part)
-}
-
-// Answers a row, with the part beside it.
+// Answers a row, with the length and the checksum of the part beside it.
 fn run_row(rt: &impl Print, b: &[u8], c: usize, store: &[u8]) -> io::Result<()> {
     let handed = row_parts::row_and_answer(b, c, store);
-    say_row(rt, handed.part, handed.answer)
+    match handed.answer {
+        Ok(place) => {
+            say(rt, b"row ", place.offset)?;
+            say(rt, b" ", place.width)?;
+        }
+        Err(e) => say_refused(rt, e.number, e.at)?,
+    }
+    say(rt, b" part ", handed.part.len())?;
+    say_checksum(rt, b" ", handed.part)
 }
 
 // Runs an exported call, and answers what it returned.
@@ -140,7 +132,7 @@ fn run_case(
     Ok(end)
 }
 
-// Runs the cases one after the other.
+// Runs the cases one after the other. Each says where the next begins, so that no range has these steps.
 fn run_cases(rt: &impl Print, text: &[u8], store: &mut [u8], other: &mut [u8]) -> io::Result<()> {
     let mut at = 0;
     while at + 16 <= text.len() {

@@ -5,7 +5,7 @@
 
 ghost use Rattle.std.specs.Prelude.{◌≤◌, ◌<◌, length};
 
-use catalogue::Verdict;
+use catalogue::Refusal;
 use std::io;
 use test_cases::read_full;
 
@@ -24,48 +24,34 @@ fn digit(c: u8) -> u8
 fn decode(line: &[u8], out: &mut [u8]) -> usize
     ensures { result ≤ length out.new }
 {
-    let mut k = 0;
-    while k < line.len() / 2 {
-        if k == out.len() {
-            break;
-        }
-        out[k] = 16 * digit(line[2 * k]) + digit(line[2 * k + 1]);
-        k += 1;
+    let n = (line.len() / 2).min(out.len());
+    for (k, byte) in out[..n].iter_mut().enumerate() {
+        *byte = 16 * digit(line[2 * k]) + digit(line[2 * k + 1]);
     }
-    k
+    n
 }
 
-// Where the line that starts at `from` ends: at the next line break, or with the text.
-fn line_end(text: &[u8], from: usize) -> usize
-    requires { from ≤ length text.now }
-    ensures { (from ≤ result) × (result ≤ length text.now) }
-{
-    let mut at = from;
-    while at < text.len() {
-        if text[at] == b'\n' {
-            break;
-        }
-        at += 1;
+// A line without its line break.
+fn digits(line: &[u8]) -> &[u8] {
+    match line {
+        [digits @ .., b'\n'] => digits,
+        _ => line,
     }
-    at
 }
 
 // Writes one answer as a line: the number of the question and the record at fault, or that there is none.
-fn report(rt: &impl Print, verdict: Verdict) -> io::Result<()> {
-    match verdict {
-        Verdict::Accepted => rt.write_all(b"accepted\n"),
-        Verdict::Refused(number, record) => println!(rt; "refused {number} {record}"),
+fn report(rt: &impl Print, answer: Result<(), Refusal>) -> io::Result<()> {
+    match answer {
+        Ok(()) => rt.write_all(b"accepted\n"),
+        Err(e) => println!(rt; "refused {} {}", e.number, e.at),
     }
 }
 
 // Checks the catalogue of each line.
 fn check_lines(rt: &impl Print, text: &[u8], space: &mut [u8]) -> io::Result<()> {
-    let mut at = 0;
-    while at < text.len() {
-        let end = line_end(text, at);
-        let n = decode(&text[at..end], space);
+    for line in text.split_inclusive(|byte| *byte == b'\n') {
+        let n = decode(digits(line), space);
         report(rt, catalogue::check(&space[..n]))?;
-        at = end + 1;
     }
     Ok(())
 }

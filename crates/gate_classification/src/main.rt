@@ -14,27 +14,20 @@ use std::io;
 use test_cases::{end_at, fill, least, long_at, read_full, say, say_checksum, say_refused};
 
 // Writes the counts of pairs and links, and the checksum of the store's used part.
-fn say_classified(
-    rt: &impl Print,
-    b: &[u8],
-    pairs: usize,
-    links: usize,
-    store: &[u8],
-) -> io::Result<()>
+fn say_classified(rt: &impl Print, b: &[u8], counts: Classified, store: &[u8]) -> io::Result<()>
     requires { Sized b.now store.now }
 {
     let end = used(b);
-    say(rt, b"pairs ", pairs)?;
-    say(rt, b" links ", links)?;
+    say(rt, b"pairs ", counts.pairs)?;
+    say(rt, b" links ", counts.links)?;
     say_checksum(rt, b" used ", &store[..end])
 }
 
 // Classifies a catalogue, and writes the answer.
 fn run(rt: &impl Print, b: &[u8], store: &mut [u8], work: &mut [u8]) -> io::Result<()> {
-    let answer = classify(b, store, work);
-    match answer {
-        Classified::Refused(number, record) => say_refused(rt, number, record),
-        Classified::Done(pairs, links) => say_classified(rt, b, pairs, links, store),
+    match classify(b, store, work) {
+        Ok(counts) => say_classified(rt, b, counts, store),
+        Err(e) => say_refused(rt, e.number, e.at),
     }
 }
 
@@ -61,7 +54,7 @@ fn run_case(
     Ok(end)
 }
 
-// Runs the cases one after the other.
+// Runs the cases one after the other. Each says where the next begins, so that no range has these steps.
 fn run_cases(rt: &impl Print, text: &[u8], store: &mut [u8], work: &mut [u8]) -> io::Result<()> {
     let mut at = 0;
     while at + 10 <= text.len() {

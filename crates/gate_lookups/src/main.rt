@@ -5,8 +5,6 @@
 
 ghost use Rattle.std.specs.Prelude.{◌+◌, ◌≤◌, ◌<◌, length, IfOk};
 
-use lookups::{Listed, Looked};
-use row_parts::Handed;
 use std::io;
 use test_cases::{end_at, fill, least, read_full, say, say_digits, say_refused, short_at};
 
@@ -19,12 +17,11 @@ fn say_bytes(rt: &impl Print, bytes: &[u8]) -> io::Result<()> {
 
 // Answers a lookup.
 fn run_lookup(rt: &impl Print, b: &[u8], c: usize, d: usize, store: &[u8]) -> io::Result<()> {
-    let answer = lookups::lookup(b, c, d, store);
-    match answer {
-        Looked::Yes => rt.write_all(b"yes\n"),
-        Looked::No => rt.write_all(b"no\n"),
-        Looked::Refused(number, record) => {
-            say_refused(rt, number, record)?;
+    match lookups::lookup(b, c, d, store) {
+        Ok(true) => rt.write_all(b"yes\n"),
+        Ok(false) => rt.write_all(b"no\n"),
+        Err(e) => {
+            say_refused(rt, e.number, e.at)?;
             rt.write_all(b"\n")
         }
     }
@@ -39,23 +36,21 @@ fn run_listing(
     list: &mut [u8],
 ) -> io::Result<()> {
     fill(list, 195);
-    let answer = lookups::listing(b, d, store, list);
-    match answer {
-        Listed::Count(count) => say(rt, b"listed ", count)?,
-        Listed::Refused(number, record) => say_refused(rt, number, record)?,
+    match lookups::listing(b, d, store, list) {
+        Ok(count) => say(rt, b"listed ", count)?,
+        Err(e) => say_refused(rt, e.number, e.at)?,
     }
     say_bytes(rt, list)
 }
 
 // Answers a row, with the bytes of the part.
 fn run_row(rt: &impl Print, b: &[u8], c: usize, store: &[u8]) -> io::Result<()> {
-    let answer = row_parts::row_answer(b, c, store);
-    match answer {
-        Handed::Row(offset, width) => {
-            say(rt, b"row ", offset)?;
-            say(rt, b" ", width)?;
+    match row_parts::row_answer(b, c, store) {
+        Ok(place) => {
+            say(rt, b"row ", place.offset)?;
+            say(rt, b" ", place.width)?;
         }
-        Handed::Refused(number, record) => say_refused(rt, number, record)?,
+        Err(e) => say_refused(rt, e.number, e.at)?,
     }
     say_bytes(rt, row_parts::row(b, c, store))
 }
@@ -101,7 +96,7 @@ fn run_case(rt: &impl Print, text: &[u8], at: usize, list: &mut [u8]) -> io::Res
     Ok(end)
 }
 
-// Runs the cases one after the other.
+// Runs the cases one after the other. Each says where the next begins, so that no range has these steps.
 fn run_cases(rt: &impl Print, text: &[u8], list: &mut [u8]) -> io::Result<()> {
     let mut at = 0;
     while at + 12 <= text.len() {

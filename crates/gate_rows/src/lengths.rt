@@ -4,7 +4,7 @@
 ghost use Rattle.std.specs.Prelude.{◌≡◌, ◌+◌, ◌*◌, ◌^◌, ◌≤◌, ◌<◌, length};
 
 use super::text;
-use rows::Found;
+use rows::marked;
 use std::io;
 
 // Whether bit i of so many is the first or last of a word or of the rest.
@@ -33,11 +33,9 @@ fn mark(row: &mut [u8], p: usize)
     requires { length row.old ≤ 1048576 }
 {
     let bits = 8 * row.len();
-    let mut i = 0;
-    while i < bits {
+    for i in 0..bits {
         rows::clear(row, i);
         rows::put_if(row, i, sets(p, i, bits));
-        i += 1;
     }
 }
 
@@ -54,8 +52,8 @@ fn say_from(rt: &impl Print, row: &[u8], from: usize) -> io::Result<()>
     say(rt, from)?;
     text(rt, b":")?;
     match rows::next(row, from) {
-        Found::At(i) => rt.print(i),
-        Found::Nothing => text(rt, b"none"),
+        Some(i) => rt.print(i),
+        None => text(rt, b"none"),
     }
 }
 
@@ -96,17 +94,6 @@ fn say_nexts(rt: &impl Print, row: &[u8]) -> io::Result<()>
     say_from(rt, row, 18446744073709551615)
 }
 
-// What `next` answers, and the row's end where that is nothing.
-fn next_or_end(row: &[u8], from: usize) -> usize
-    requires { length row.now ≤ 1048576 }
-    ensures { (result ≤ 8 * length row.now) × (from ≤ 8 * length row.now → from ≤ result) }
-{
-    match rows::next(row, from) {
-        Found::At(i) => i,
-        Found::Nothing => 8 * row.len(),
-    }
-}
-
 // A checksum with one number more.
 fn mix(sum: usize, n: usize) -> usize
     requires { (sum < 2 ^ 32) × (n < 2 ^ 32) }
@@ -127,15 +114,12 @@ fn say_if(rt: &impl Print, shown: bool, n: usize) -> io::Result<()> {
 fn say_walk(rt: &impl Print, row: &[u8], shown: bool) -> io::Result<()>
     requires { length row.now ≤ 1048576 }
 {
-    let end = 8 * row.len();
     let mut found = 0;
     let mut sum = 0;
-    let mut i = next_or_end(row, 0);
-    while i < end {
+    for i in marked(row, 8 * row.len()) {
         say_if(rt, shown, i)?;
         found += 1;
         sum = mix(sum, i);
-        i = next_or_end(row, i + 1);
     }
     text(rt, b" finds")?;
     say(rt, found)?;

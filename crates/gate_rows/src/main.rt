@@ -3,7 +3,6 @@
 
 mod lengths;
 
-use rows::Found;
 use std::io;
 
 // Writes bytes.
@@ -36,8 +35,8 @@ fn show_has(rt: &impl Print, row: &[u8; 3], i: usize) -> io::Result<()> {
 // What `next` answers.
 fn show_next(rt: &impl Print, row: &[u8; 3], from: usize) -> io::Result<()> {
     match rows::next(row, from) {
-        Found::At(i) => show(rt, i),
-        Found::Nothing => text(rt, b"none "),
+        Some(i) => show(rt, i),
+        None => text(rt, b"none "),
     }
 }
 

@@ -5,7 +5,7 @@
 
 ghost use Rattle.std.specs.Prelude.{◌+◌, ◌≤◌, ◌<◌, length, IfOk};
 
-use call_lists::Carried;
+use call_lists::Fault;
 use call_lists::requests::{ENTRIES, LIST};
 use std::io;
 use test_cases::{end_at, fill, least, read_full, say, say_checksum, short_at};
@@ -25,25 +25,14 @@ fn say_numbers(rt: &impl Print, numbers: &[usize]) -> io::Result<()> {
 }
 
 // Writes the answer, and says how many calls were carried out.
-fn say_carried(rt: &impl Print, carried: Carried) -> io::Result<usize> {
+fn say_carried(rt: &impl Print, carried: Result<usize, Fault>) -> io::Result<usize> {
     match carried {
-        Carried::Done(count) => {
-            say(rt, b"done ", count)?;
-            Ok(count)
-        }
-        Carried::BadCall(k) => {
-            say(rt, b"bad call ", k)?;
-            Ok(0)
-        }
-        Carried::ShortLists => {
-            rt.write_all(b"short lists")?;
-            Ok(0)
-        }
-        Carried::ShortAnswers => {
-            rt.write_all(b"short answers")?;
-            Ok(0)
-        }
+        Ok(count) => say(rt, b"done ", count)?,
+        Err(Fault::BadCall(k)) => say(rt, b"bad call ", k)?,
+        Err(Fault::ShortLists) => rt.write_all(b"short lists")?,
+        Err(Fault::ShortAnswers) => rt.write_all(b"short answers")?,
     }
+    Ok(carried.unwrap_or(0))
 }
 
 // Writes the checksums of the whole buffers: what a list must not change shows there.
@@ -140,7 +129,7 @@ fn run_case(
     Ok(end)
 }
 
-// Runs the cases one after the other.
+// Runs the cases one after the other. Each says where the next begins, so that no range has these steps.
 fn run_cases(
     rt: &impl Print,
     text: &[u8],

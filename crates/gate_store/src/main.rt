@@ -6,7 +6,6 @@ ghost use Rattle.std.specs.Prelude.{◌≤◌, length};
 ghost use Rattle.catalogue.specs.WellFormed.{WellFormed};
 ghost use Rattle.layout.specs.Parts.{Sized, Clear};
 
-use catalogue::Verdict;
 use std::io;
 
 // Writes the number of the question that refuses.
@@ -79,8 +78,8 @@ fn report_lengths(
 // The same after questions 1 to 9.
 fn report(rt: &impl Print, b: &[u8], store: &[u8], work: usize, list: usize) -> io::Result<()> {
     match catalogue::check(b) {
-        Verdict::Accepted => report_lengths(rt, b, store, work, list),
-        Verdict::Refused(number, _) => report_refused(rt, number),
+        Ok(()) => report_lengths(rt, b, store, work, list),
+        Err(e) => report_refused(rt, e.number),
     }
 }
 
@@ -154,10 +153,8 @@ fn report_nested(rt: &impl Print) -> io::Result<()> {
 fn fill(store: &mut [u8], k: usize)
     requires { (1170 ≤ length store.old) × (k ≤ 4225) }
 {
-    let mut p = 0;
-    while p < k {
+    for p in 0..k {
         rows::put_in_row(store, 9, p / 65, p % 65);
-        p += 1;
     }
 }
 

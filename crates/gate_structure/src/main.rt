@@ -4,7 +4,7 @@
 
 ghost use Rattle.std.specs.Prelude.{◌+◌, ◌≤◌, ◌<◌, length};
 
-use catalogue::{Concept, Inclusion, Verdict};
+use catalogue::{Concept, Inclusion};
 use reader::{copy_numbers, number_after, put_number};
 use std::io;
 use structure::Square;
@@ -73,10 +73,8 @@ fn put_concepts(out: &mut [u8], n: usize)
     requires in_bounds { 4096 ≤ length out.old }
     requires n_bound { n ≤ 512 }
 {
-    let mut i = 0;
-    while i < n {
+    for i in 0..n {
         put_concept(out, i);
-        i += 1;
     }
 }
 
@@ -85,10 +83,8 @@ fn put_inclusions(out: &mut [u8], n: usize, path: &[u8])
     requires in_bounds { 4096 ≤ length out.old }
     requires n_bound { (n ≤ 512) × (length path.now ≤ 64) }
 {
-    let mut k = 0;
-    while k + 1 < path.len() {
-        put_inclusion(out, n, k, path[k], path[k + 1]);
-        k += 1;
+    for (k, pair) in path.windows(2).enumerate() {
+        put_inclusion(out, n, k, pair[0], pair[1]);
     }
 }
 
@@ -121,7 +117,7 @@ fn report_refused(rt: &impl Print, number: usize) -> io::Result<()> {
 // Writes whether concept i of a catalogue contains concept j.
 fn report_contains(rt: &impl Print, b: &[u8], i: usize, j: usize) -> io::Result<()> {
     match catalogue::check(b) {
-        Verdict::Accepted => {
+        Ok(()) => {
             let n = catalogue::concepts(b);
             if i < n {
                 say(rt, i, b" contains ", j)?;
@@ -134,7 +130,7 @@ fn report_contains(rt: &impl Print, b: &[u8], i: usize, j: usize) -> io::Result<
             }
             Ok(())
         }
-        Verdict::Refused(number, _) => report_refused(rt, number),
+        Err(e) => report_refused(rt, e.number),
     }
 }
 
@@ -169,11 +165,11 @@ fn report_square(rt: &impl Print, square: &Square, m: usize) -> io::Result<()>
 // Writes the role reach of a catalogue.
 fn report_reach(rt: &impl Print, b: &[u8]) -> io::Result<()> {
     match catalogue::check(b) {
-        Verdict::Accepted => {
+        Ok(()) => {
             let square = structure::close_roles(b);
             report_square(rt, &square, catalogue::roles(b))
         }
-        Verdict::Refused(number, _) => report_refused(rt, number),
+        Err(e) => report_refused(rt, e.number),
     }
 }
 

@@ -9,7 +9,9 @@ use lib.Dec.{lit<}
 use lib.ListN.{length, take}
 use lib.Seq.{length-take-le, get_or-take, take_all}
 use borrow.Author.Tests.{le-leb, ne_eqb}
+use Rattle.std.proofs.Common.{Result, Ok, Err}
 use Rattle.rows.specs.Bits.{Bytes}
+use Rattle.catalogue.specs.declared.checks.Refusal.{Refusal}
 use Rattle.catalogue.specs.Outcome.{Outcome, accepted, refused}
 use Rattle.catalogue.specs.Words.{word}
 use Rattle.catalogue.specs.Header.{total}
@@ -27,7 +29,6 @@ use Rattle.rules.proofs.Changes.{closure_decided}
 use Rattle.rules.proofs.Counts.{pairs_decide, links_decide, counted_by}
 use Rattle.layout.specs.Parts.{Sized, held}
 use Rattle.classification.specs.declared.Classified.{Classified}
-use Rattle.classification.specs.declared.Classified.TheVariants.{Done, Refused}
 use Rattle.classification.specs.Classified.{classify_checks, outcome_of, pairs_of, links_of, Classifies}
 use Rattle.classification.proofs.Checks.{accepted_fits}
 use Rattle.classification.proofs.Outcomes.{answer_outcome}
@@ -60,24 +61,24 @@ program_text_listed input test pairs links e exact p l =
 
 -- ---- By what classify answers, and the store that it leaves.
 
-module _ (input store work : List ℕ) (answer : Classified) (store' work' : List ℕ) (store_long : length store ≡ 65536) (work_long : length work ≡ 65536) (c : Classifies input store work answer store' work') where
+module _ (input store work : List ℕ) (answer : Result Classified Refusal) (store' work' : List ℕ) (store_long : length store ≡ 65536) (work_long : length work ≡ 65536) (c : Classifies input store work answer store' work') where
   outcome : outcome_of answer ≡ classify_checks input 65536 65536
   outcome = answer_outcome input store work answer store' work' c ∙ ap₂ (classify_checks input) store_long work_long
 
-  pub refused_text : (number at : ℕ) → answer ≡ Refused number at → program_text input ≡ refusal number
-  refused_text number at e = program_text_refused input number at (sym outcome ∙ ap outcome_of e)
+  pub refused_text : (r : Refusal) → answer ≡ Err r → program_text input ≡ refusal r.number
+  refused_text r e = program_text_refused input r.number r.at (sym outcome ∙ ap outcome_of e)
 
   -- What is accepted fits any buffer of 65,536 bytes.
-  pub done_fits : (pairs links : ℕ) → answer ≡ Done pairs links → (buffer : List ℕ) → length buffer ≡ 65536 → Sized input buffer
-  done_fits pairs links e buffer long =
+  pub done_fits : (counts : Classified) → answer ≡ Ok counts → (buffer : List ℕ) → length buffer ≡ 65536 → Sized input buffer
+  done_fits counts e buffer long =
       let fits = accepted_fits input 65536 65536 (sym outcome ∙ ap outcome_of e) in
       record { well_formed = fits.well_formed; long = omega (arith, fits.store_long) }
 
-  pub done_text : (pairs links : ℕ) → answer ≡ Done pairs links → program_text input ≡ listing input (held input store') pairs links
-  done_text pairs links e =
+  pub done_text : (counts : Classified) → answer ≡ Ok counts → program_text input ≡ listing input (held input store') counts.pairs counts.links
+  done_text counts e =
       let S = Closure input (catalogue_axioms input) in
       let a = c.accepts (sym (answer_outcome input store work answer store' work' c) ∙ ap outcome_of e) in
-      program_text_listed input (held input store') pairs links (sym outcome ∙ ap outcome_of e) a.fresh.set
+      program_text_listed input (held input store') counts.pairs counts.links (sym outcome ∙ ap outcome_of e) a.fresh.set
       (subst (Size input (Pairs S)) (ap pairs_of e) a.pairs_counted)
       (subst (Size input (Links S)) (ap links_of e) a.links_counted)
 

@@ -1,5 +1,5 @@
 -- What the listing program writes, as a function of the bytes that it reads (document 01, Examples).
-use Rattle.std.specs.Prelude.{ℕ, ◌<◌, ◌≤◌, ◌≡◌, ⊤, Bool, not, ◌&&◌, List, length}
+use Rattle.std.specs.Prelude.{ℕ, ◌<◌, ◌≤◌, ◌≡◌, ⊤, Bool, not, ◌&&◌, List, length, Option, Some, None}
 use Rattle.catalogue.specs.Outcome.{Outcome, accepted, refused}
 use Rattle.rules.specs.Axioms.{catalogue_axioms}
 use Rattle.rules.specs.Rules.{Expression}
@@ -8,11 +8,8 @@ use Rattle.rules.specs.Presentation.{in_closure}
 use Rattle.classification.specs.Classified.{classify_checks}
 use Rattle.text.specs.Text.{refusal}
 use Rattle.text.specs.Lines.{listing}
-use Rattle.listings.specs.declared.Listing.{Listing}
-use Rattle.listings.specs.declared.Listing.TheVariants.{Text, Unread}
 use Rattle.listings.specs.declared.Shortfall.{Shortfall}
 use Rattle.listings.specs.declared.Shortfall.TheVariants as short
-use Rattle.std.specs.declared.option.Option.{Option}
 use Rattle.std.specs.Io.KnownBytes.{Appends, Consumes, IsAtEnd}
 
 -- The text of the set that a test gives: its counts of pairs and of links, and then its pairs of different atomic concepts, rising.
@@ -30,9 +27,9 @@ unfoldable pub program_text : List ℕ → List ℕ
 program_text input = unless_refused (classify_checks input 65536 65536) (listing_of input (in_closure input (catalogue_axioms input)))
 
 -- What a run can promise of its answer alone: an answer with the length of the text of some input of at most 65,536 bytes.
-pub data Ran : Listing → Type 0 where
-  listed : (input : List ℕ) → length input ≤ 65536 → {r : Listing} → r ≡ Text (length (program_text input)) → Ran r
-  unread : {r : Listing} → r ≡ Unread → Ran r
+pub data Ran : Option ℕ → Type 0 where
+  listed : (input : List ℕ) → length input ≤ 65536 → {r : Option ℕ} → r ≡ Some (length (program_text input)) → Ran r
+  unread : {r : Option ℕ} → r ≡ None → Ran r
 
 -- What a run does at a reader and a writer of which it is known what they have left and hold: it takes bytes off the input, 65,536 or all that there are,
 -- and appends their text to the output. Its answer is the length of the text.

@@ -1,33 +1,25 @@
 // The body of the listing program (document 01, Examples), for the programs that run it.
 #![tactic(auto)]
 
-ghost use Rattle.std.specs.Prelude.{◌≡◌, ◌≤◌, ◌<◌, length, take, IfOk, OnOk, MatchResult};
-ghost use Rattle.std.specs.Io.{ReadsAtMost};
-ghost use Rattle.std.specs.Io.KnownBytes.{Appends, Consumes, IsAtEnd};
+ghost use Rattle.std.specs.Prelude.{◌≡◌, ◌≤◌, length, OnOk, MatchResult};
+ghost use Rattle.std.specs.Io.KnownBytes.{Appends};
 ghost use Rattle.text.specs.Text.{Appended};
 ghost use Rattle.listings.specs.Program.{program_text, Ran, Lists, FallsShort};
 
-use classification::{Classified, classify};
+use classification::classify;
+use reading::read_full;
 use std::io;
 use std::io::{Read, Write};
 use text::{listing_text, refusal_text};
-
-// What a run of the program came to: a text of so many bytes, or an input that could not be read.
-#[derive(Clone, Copy)]
-pub enum Listing {
-    Text(usize),
-    Unread,
-}
 
 // The program's text, at the start of a buffer that has room for the longest.
 fn program_text(input: &[u8], store: &mut [u8], work: &mut [u8], out: &mut [u8]) -> usize
     requires { (length store.old ≡ 65536) × (length work.old ≡ 65536) × (2097152 ≤ length out.old) }
     ensures { Appended (program_text input.now) out.old 0 result out.new }
 {
-    let answer = classify(input, store, work);
-    match answer {
-        Classified::Refused(number, _) => refusal_text(out, number),
-        Classified::Done(pairs, links) => listing_text(input, store, pairs, links, out),
+    match classify(input, store, work) {
+        Ok(counts) => listing_text(input, store, counts.pairs, counts.links, out),
+        Err(e) => refusal_text(out, e.number),
     }
 }
 
@@ -54,23 +46,6 @@ fn list<W: Write>(input: &[u8], out: &mut W) -> Result<usize, usize>
     }
 }
 
-// Reads to the end of the input, or until the buffer is full, and says how many bytes it read.
-fn read_full<R: Read>(input: &mut R, buffer: &mut [u8]) -> io::Result<usize>
-    ensures within { ReadsAtMost result buffer.new }
-    ensures bytes { IfOk result (λ n. Consumes (R.remaining input.old) (R.remaining input.new) (take n buffer.new)) }
-    ensures end { IfOk result (λ n. n < length buffer.new → IsAtEnd (R.remaining input.new)) }
-{
-    let mut done = 0;
-    while done < buffer.len() {
-        let n = input.read(&mut buffer[done..])?;
-        if n == 0 {
-            break;
-        }
-        done += n;
-    }
-    Ok(done)
-}
-
 // Why no text was put out: the input could not be read, or the text of so many bytes could not be written.
 #[derive(Clone, Copy)]
 pub enum Shortfall {
@@ -92,19 +67,20 @@ pub fn list_input<R: Read, W: Write>(input: &mut R, out: &mut W) -> Result<usize
     }
 }
 
-// The same on the standard output. On standard error it says that the input could not be read, or the text not be written.
-pub fn run<R: Read>(rt: &(impl Print + Eprint), file: &mut R) -> Listing
+// The same on the standard output: how many bytes the text has, or nothing where the input could not be read. On standard error it says that the input could
+// not be read, or the text not be written.
+pub fn run<R: Read>(rt: &(impl Print + Eprint), file: &mut R) -> Option<usize>
     ensures { Ran result }
 {
     match list_input(file, &mut io::writer(rt)) {
-        Ok(end) => Listing::Text(end),
+        Ok(end) => Some(end),
         Err(Shortfall::Unwritten(end)) => {
             let _ = rt.eprintln("listing: the output could not be written");
-            Listing::Text(end)
+            Some(end)
         }
         Err(Shortfall::Unread) => {
             let _ = rt.eprintln("listing: the input could not be read");
-            Listing::Unread
+            None
         }
     }
 }

@@ -6,17 +6,11 @@ ghost use Rattle.number_lists.specs.Lists.{Filled};
 ghost use Rattle.lookups.specs.Listings.{atomic_under, kinds_under, Lists};
 
 use super::pairs::has_pair;
-use catalogue::{Concept, Verdict};
+use catalogue::{Concept, Refusal};
 use read_checks::check_listing;
 
-// What a listing answers.
-#[derive(Clone, Copy)]
-pub enum Listed {
-    Count(usize),
-    Refused(usize, usize),
-}
-
 // Is concept c atomic and under d, by the store?
+#[tactic(auto, using(store::proofs::Says::says_pair), unfolding(crate::specs::Listings::atomic_under))]
 fn atomic_under(b: &[u8], c: usize, d: usize, store: &[u8]) -> bool
     requires { Sized b.now store.now × (c < concepts b.now) × (d < concepts b.now) }
     ensures { result ≡ atomic_under b.now store.now d c }
@@ -32,21 +26,17 @@ fn list_under(b: &[u8], d: usize, store: &[u8], list: &mut [u8]) -> usize
 {
     let n = catalogue::concepts(b);
     let mut count: usize = 0;
-    let mut c = 0;
-    while c < n {
+    for c in 0..n {
         count = number_lists::enter(list, count, c, atomic_under(b, c, d, store));
-        c += 1;
     }
     count
 }
 
-// Lists the atomic concepts under d, by the store.
-pub fn listing(b: &[u8], d: usize, store: &[u8], list: &mut [u8]) -> Listed
+// Lists the atomic concepts under d, by the store, and answers how many there are.
+#[tactic(auto, using(catalogue::proofs::HandedOn::handed_on, crate::proofs::Answered::lists_accepted, crate::proofs::Answered::lists_refused))]
+pub fn listing(b: &[u8], d: usize, store: &[u8], list: &mut [u8]) -> Result<usize, Refusal>
     ensures { Lists b.now d store.now list.old result list.new }
 {
-    let verdict = check_listing(b, d, store, list.len());
-    match verdict {
-        Verdict::Refused(number, at) => Listed::Refused(number, at),
-        Verdict::Accepted => Listed::Count(list_under(b, d, store, list)),
-    }
+    check_listing(b, d, store, list.len())?;
+    Ok(list_under(b, d, store, list))
 }

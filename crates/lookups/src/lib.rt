@@ -4,5 +4,5 @@
 pub mod pairs; // pairs.rt: lookup of a pair
 pub mod kinds; // kinds.rt: listing of the atomic concepts under one
 
-pub use kinds::{Listed, listing};
-pub use pairs::{Looked, lookup};
+pub use kinds::listing;
+pub use pairs::lookup;

@@ -5,19 +5,12 @@ ghost use Rattle.rules.specs.Rules.{pair};
 ghost use Rattle.layout.specs.Parts.{Sized, held};
 ghost use Rattle.lookups.specs.Answers.{looked_up};
 
-use catalogue::Verdict;
+use catalogue::Refusal;
 use layout::pair_offset;
 use read_checks::check_reading;
 
-// What a lookup answers.
-#[derive(Clone, Copy)]
-pub enum Looked {
-    Yes,
-    No,
-    Refused(usize, usize),
-}
-
 // Whether the store has the pair of concepts c and d.
+#[tactic(auto, using(layout::proofs::Offsets::offset_limit, layout::proofs::Offsets::held_pair))]
 pub fn has_pair(b: &[u8], c: usize, d: usize, store: &[u8]) -> bool
     requires { Sized b.now store.now × (c < concepts b.now) × (d < concepts b.now) }
     ensures { result ≡ held b.now store.now (pair c d) }
@@ -26,17 +19,10 @@ pub fn has_pair(b: &[u8], c: usize, d: usize, store: &[u8]) -> bool
 }
 
 // Does C lie under D, by the store?
-pub fn lookup(b: &[u8], c: usize, d: usize, store: &[u8]) -> Looked
+#[tactic(auto, using(catalogue::proofs::HandedOn::handed_on, crate::proofs::Answered::looked_up_lem, crate::proofs::Answered::looked_refused, store::proofs::Says::says_pair))]
+pub fn lookup(b: &[u8], c: usize, d: usize, store: &[u8]) -> Result<bool, Refusal>
     ensures { result ≡ looked_up b.now c d store.now }
 {
-    let verdict = check_reading(b, c, d, store);
-    match verdict {
-        Verdict::Refused(number, at) => Looked::Refused(number, at),
-        Verdict::Accepted => {
-            if has_pair(b, c, d, store) {
-                return Looked::Yes;
-            }
-            Looked::No
-        }
-    }
+    check_reading(b, c, d, store)?;
+    Ok(has_pair(b, c, d, store))
 }

@@ -4,6 +4,8 @@ use mathlib.Core.Path.{◌≡◌}
 use mathlib.Core.Logic.{◌↔◌, ◌⊎◌, inl, inr, ⊎_elim}
 use mathlib.Core.List.{List, [], ◌∷◌}
 use lib.ListN.{length}
+use Rattle.std.proofs.Common.{Ok, Err}
+use Rattle.catalogue.specs.Verdicts.{refusal}
 use Rattle.catalogue.specs.Header.{concepts}
 use Rattle.catalogue.specs.Outcome.{accepted}
 use Rattle.catalogue.specs.Checks.{checked}
@@ -21,8 +23,6 @@ use Rattle.lookups.specs.Listings.{kinds_under}
 use Rattle.meaning.specs.Meaning.{LookupMeans}
 use Rattle.lookups.specs.Answers.{looked_up}
 use Rattle.meaning.specs.Atomic.{Absent, AtomicMeans}
-use Rattle.lookups.specs.declared.kinds.Listed.TheVariants.{Count}
-use Rattle.row_parts.specs.declared.Handed.TheVariants.{Refused}
 use Rattle.row_parts.proofs.Answered.{row_accepted, row_refused}
 use Rattle.meaning.proofs.DemandLookup.{lookup_means, occurring_answered}
 use Rattle.meaning.proofs.DemandEntries.{listing_finds}
@@ -39,10 +39,10 @@ module _ (b : List ℕ) (F : Axioms) (store : List ℕ) (catalogue : checked b �
   absent : (c : ℕ) → c < concepts b → ¬ (Occurs b F c) → Absent b F c
   absent c l out = (l, λ k. out (atomic (l, k)), out)
 
-  row_absent : (c : ℕ) → (row_answer b c store ≡ Refused 19 0) ↔ Absent b F c
+  row_absent : (c : ℕ) → (row_answer b c store ≡ Err (refusal 19 0)) ↔ Absent b F c
   row_absent c = go (one_named b F store catalogue range few fresh c)
     where
-      go : NamedOne b F c (read_checks b (c ∷ []) store) → (row_answer b c store ≡ Refused 19 0) ↔ Absent b F c
+      go : NamedOne b F c (read_checks b (c ∷ []) store) → (row_answer b c store ≡ Err (refusal 19 0)) ↔ Absent b F c
       go (occurring e o) = (λ q. absurd (row_not_refused (row_accepted b c store e) q), λ a. absurd (a.2 o))
       go (missing e l n) = (λ _. absent c l n, λ _. row_refused b c store e)
       go (outside e m) = (λ q. absurd (one_number q (row_refused b c store e)), λ a. absurd (m a.0))
@@ -57,7 +57,7 @@ module _ (b : List ℕ) (F : Axioms) (store : List ℕ) (catalogue : checked b �
             let finds = listing_finds b F store catalogue range few fresh d list r after f in
             let o : Occurs b F d = atomic x in
             let k = length (kinds_under b d store) in
-            let counted : r ≡ Count k = finds.means.counts long o in
+            let counted : r ≡ Ok k = finds.means.counts long o in
             let (i, l, e) = (finds.entries k counted d).1 (x.1, o, λ m s y p h. h) in
             (k, counted, i, l, e);
         lookup_absent = λ c d. (

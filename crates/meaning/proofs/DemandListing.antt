@@ -10,6 +10,9 @@ use mathlib.Core.List.{List, [], ◌∷◌}
 use lib.Dec.{ltb, eqb}
 use lib.ListN.{length}
 use borrow.Author.Tests.{ltb-true, lt-ltb, leb-true, le-leb, eqb-true, eq-eqb}
+use Rattle.std.proofs.Common.{Result, Ok, Err}
+use Rattle.catalogue.specs.declared.checks.Refusal.{Refusal}
+use Rattle.catalogue.specs.Verdicts.{refusal}
 use Rattle.catalogue.specs.Header.{concepts}
 use Rattle.catalogue.specs.Records.{kind}
 use Rattle.catalogue.specs.Outcome.{Outcome, accepted, refused}
@@ -33,20 +36,20 @@ use Rattle.store.proofs.Rising.{rising_lists}
 use Rattle.read_checks.specs.Checks.{ask_occurs, content_checks, list_checks}
 use Rattle.lookups.specs.Listings.{atomic_under, kinds_under, listed, Lists}
 use Rattle.meaning.specs.Meaning.{Among, KindUnder, ListingMeans}
-use Rattle.lookups.specs.declared.kinds.Listed.{Listed}
-use Rattle.lookups.specs.declared.kinds.Listed.TheVariants.{Count, Refused}
 use Rattle.store.proofs.Checks.{every_one}
 use Rattle.meaning.proofs.DemandLookup.{open_passes, content_asks, meant}
 
 -- ---- two answers are not one
 
-count_not_refused : {r : Listed} {k number at : ℕ} → r ≡ Count k → r ≡ Refused number at → ⊥
+count_not_refused : {r : Result ℕ Refusal} {k number at : ℕ} → r ≡ Ok k → r ≡ Err (refusal number at) → ⊥
 count_not_refused e f = let z : ◌≡◌ {A = ℕ} 0 1 = cc in omega arith
 
-same_number : {r : Listed} {number number' at at' : ℕ} → r ≡ Refused number at → r ≡ Refused number' at' → number ≡ number'
-same_number e f = cc
+same_number : {r : Result ℕ Refusal} {number number' at at' : ℕ} → r ≡ Err (refusal number at) → r ≡ Err (refusal number' at') → number ≡ number'
+same_number {r} {number} {number'} {at} {at'} e f =
+    let h : refusal number at ≡ refusal number' at' = cc in
+    ap (λ (x : Refusal). x.number) h
 
-same_count : {r : Listed} {k k' : ℕ} → r ≡ Count k → r ≡ Count k' → k ≡ k'
+same_count : {r : Result ℕ Refusal} {k k' : ℕ} → r ≡ Ok k → r ≡ Ok k' → k ≡ k'
 same_count e f = cc
 
 module _ (b : List ℕ) (F : Axioms) (store : List ℕ) (catalogue : checked b ≡ accepted) (range : InRange b F) (few : axiom_count b F ≤ 4096) (fresh : Fresh b F store) where
@@ -99,7 +102,7 @@ module _ (b : List ℕ) (F : Axioms) (store : List ℕ) (catalogue : checked b �
       let exact = occurs_exact b F wf range d in
       (λ e. exact.0 (sym (every_one (occurs b F) d) ∙ e), λ o. every_one (occurs b F) d ∙ exact.1 o)
 
-  refused_short : (d long : ℕ) (r : Listed) → r ≡ Refused 12 0 → ¬ (2 * concepts b ≤ long) → ListingMeans b F d long r (kinds_under b d store)
+  refused_short : (d long : ℕ) (r : Result ℕ Refusal) → r ≡ Err (refusal 12 0) → ¬ (2 * concepts b ≤ long) → ListingMeans b F d long r (kinds_under b d store)
   refused_short d long r e n =
       record {
         counts = λ l o. absurd (n l);
@@ -110,7 +113,7 @@ module _ (b : List ℕ) (F : Axioms) (store : List ℕ) (catalogue : checked b �
         absent = (λ q. absurd (let z : ◌≡◌ {A = ℕ} 12 19 = same_number e q in let y : ⊥ = omega arith in y), λ (l, _, _). absurd (n l));
       }
 
-  refused_outside : (d long : ℕ) (r : Listed) → r ≡ Refused 15 0 → 2 * concepts b ≤ long → ¬ (d < concepts b) → ListingMeans b F d long r (kinds_under b d store)
+  refused_outside : (d long : ℕ) (r : Result ℕ Refusal) → r ≡ Err (refusal 15 0) → 2 * concepts b ≤ long → ¬ (d < concepts b) → ListingMeans b F d long r (kinds_under b d store)
   refused_outside d long r e l n =
       record {
         counts = λ _ o. absurd (n (occurs_below b F wf range d o));
@@ -121,7 +124,7 @@ module _ (b : List ℕ) (F : Axioms) (store : List ℕ) (catalogue : checked b �
         absent = (λ q. absurd (let z : ◌≡◌ {A = ℕ} 15 19 = same_number e q in let y : ⊥ = omega arith in y), λ (_, p, _). absurd (n p));
       }
 
-  refused_absent : (d long : ℕ) (r : Listed) → r ≡ Refused 19 0 → 2 * concepts b ≤ long → d < concepts b → ¬ (Occurs b F d) → ListingMeans b F d long r (kinds_under b d store)
+  refused_absent : (d long : ℕ) (r : Result ℕ Refusal) → r ≡ Err (refusal 19 0) → 2 * concepts b ≤ long → d < concepts b → ¬ (Occurs b F d) → ListingMeans b F d long r (kinds_under b d store)
   refused_absent d long r e l p n =
       record {
         counts = λ _ o. absurd (n o);
@@ -143,22 +146,22 @@ module _ (b : List ℕ) (F : Axioms) (store : List ℕ) (catalogue : checked b �
       none [] n = refl
       none (c ∷ names) n = absurd (n c (0, omega arith, refl))
 
-  counted : (d long : ℕ) (r : Listed) → r ≡ Count (length (kinds_under b d store)) → 2 * concepts b ≤ long → Occurs b F d → ListingMeans b F d long r (kinds_under b d store)
+  counted : (d long : ℕ) (r : Result ℕ Refusal) → r ≡ Ok (length (kinds_under b d store)) → 2 * concepts b ≤ long → Occurs b F d → ListingMeans b F d long r (kinds_under b d store)
   counted d long r e l o =
       record {
         counts = λ _ _. e;
         exact = listed_exact d;
-        empty = (λ q. (l, o, (none_listed d o).0 (same_count e q)), λ (_, _, n). e ∙ ap Count ((none_listed d o).1 n));
+        empty = (λ q. (l, o, (none_listed d o).0 (same_count e q)), λ (_, _, n). e ∙ ap Ok ((none_listed d o).1 n));
         short = (λ q. absurd (count_not_refused e q), λ m. absurd (m l));
         outside = (λ q. absurd (count_not_refused e q), λ (_, m). absurd (m (occurs_below b F wf range d o)));
         absent = (λ q. absurd (count_not_refused e q), λ (_, _, n). absurd (n o));
       }
 
-  answer_is : (d : ℕ) (list : List ℕ) (r : Listed) (after : List ℕ) (o : Outcome) → Lists b d store list r after → list_checks b (d ∷ []) store (length list) ≡ o → r ≡ listed o (kinds_under b d store)
+  answer_is : (d : ℕ) (list : List ℕ) (r : Result ℕ Refusal) (after : List ℕ) (o : Outcome) → Lists b d store list r after → list_checks b (d ∷ []) store (length list) ≡ o → r ≡ listed o (kinds_under b d store)
   answer_is d list r after o f e = f.answer ∙ ap (λ (x : Outcome). listed x (kinds_under b d store)) e
 
   -- Demand 1 and 2 of a listing from a fresh store.
-  pub listing_means : (d : ℕ) (list : List ℕ) (r : Listed) (after : List ℕ) → Lists b d store list r after → ListingMeans b F d (length list) r (kinds_under b d store)
+  pub listing_means : (d : ℕ) (list : List ℕ) (r : Result ℕ Refusal) (after : List ℕ) → Lists b d store list r after → ListingMeans b F d (length list) r (kinds_under b d store)
   unfolding ask_list ask_numbers ask_occurs
   listing_means d list r after f =
       let long = length list in

@@ -8,6 +8,9 @@ use mathlib.Core.List.{List, [], ◌∷◌}
 use lib.Dec.{ltb}
 use lib.ListN.{length}
 use borrow.Author.Tests.{ltb-true, lt-ltb}
+use Rattle.std.proofs.Common.{Result, Ok, Err}
+use Rattle.catalogue.specs.declared.checks.Refusal.{Refusal}
+use Rattle.catalogue.specs.Verdicts.{refusal}
 use Rattle.catalogue.specs.Header.{concepts}
 use Rattle.catalogue.specs.Outcome.{Outcome, accepted}
 use Rattle.catalogue.specs.Checks.{checked}
@@ -31,23 +34,24 @@ use Rattle.store.proofs.Checks.{marked-axioms, marked_fits, marked_limit, every_
 use Rattle.read_checks.specs.Checks.{ask_occurs, open_checks, content_checks, read_checks}
 use Rattle.lookups.specs.Answers.{looked, looked_up}
 use Rattle.meaning.specs.Meaning.{LookupMeans}
-use Rattle.lookups.specs.declared.pairs.Looked.{Looked}
-use Rattle.lookups.specs.declared.pairs.Looked.TheVariants.{Yes, No, Refused}
 use Rattle.lookups.proofs.Answered.{looked_up_lem, looked_refused}
 
 -- ---- two answers are not one
 
-yes_not_no : {r : Looked} → r ≡ Yes → r ≡ No → ⊥
+yes_not_no : {r : Result Bool Refusal} → r ≡ Ok true → r ≡ Ok false → ⊥
 yes_not_no e f = let z : ◌≡◌ {A = ℕ} 0 1 = cc in omega arith
 
-yes_not_refused : {r : Looked} {number at : ℕ} → r ≡ Yes → r ≡ Refused number at → ⊥
+yes_not_refused : {r : Result Bool Refusal} {number at : ℕ} → r ≡ Ok true → r ≡ Err (refusal number at) → ⊥
 yes_not_refused e f = let z : ◌≡◌ {A = ℕ} 0 1 = cc in omega arith
 
-no_not_refused : {r : Looked} {number at : ℕ} → r ≡ No → r ≡ Refused number at → ⊥
+no_not_refused : {r : Result Bool Refusal} {number at : ℕ} → r ≡ Ok false → r ≡ Err (refusal number at) → ⊥
 no_not_refused e f = let z : ◌≡◌ {A = ℕ} 0 1 = cc in omega arith
 
-not_both_refused : {r : Looked} → r ≡ Refused 19 0 → r ≡ Refused 15 0 → ⊥
-not_both_refused e f = let z : ◌≡◌ {A = ℕ} 19 15 = cc in omega arith
+not_both_refused : {r : Result Bool Refusal} → r ≡ Err (refusal 19 0) → r ≡ Err (refusal 15 0) → ⊥
+not_both_refused e f =
+    let h : refusal 19 0 ≡ refusal 15 0 = cc in
+    let z : ◌≡◌ {A = ℕ} 19 15 = ap (λ (x : Refusal). x.number) h in
+    omega arith
 
 -- ---- two tests as one
 
@@ -97,7 +101,7 @@ module _ (b : List ℕ) (F : Axioms) (store : List ℕ) (catalogue : checked b �
       (demand_two_closure b F (held b store) wf range fresh.set c d o p)
 
   -- Where 15 says no, where 19 does, and where both say yes.
-  outside_means : (c d : ℕ) (r : Looked) → r ≡ Refused 15 0 → ¬ ((c < concepts b) × (d < concepts b)) → LookupMeans b F c d r
+  outside_means : (c d : ℕ) (r : Result Bool Refusal) → r ≡ Err (refusal 15 0) → ¬ ((c < concepts b) × (d < concepts b)) → LookupMeans b F c d r
   outside_means c d r e out =
       let never : Occurs b F c → Occurs b F d → ⊥ = λ o p. out (occurs_below b F wf range c o, occurs_below b F wf range d p) in
       record {
@@ -108,7 +112,7 @@ module _ (b : List ℕ) (F : Axioms) (store : List ℕ) (catalogue : checked b �
         one_of = inr (inr (inr e));
       }
 
-  absent_means : (c d : ℕ) (r : Looked) → r ≡ Refused 19 0 → (c < concepts b) × (d < concepts b) → ¬ (Occurs b F c × Occurs b F d) → LookupMeans b F c d r
+  absent_means : (c d : ℕ) (r : Result Bool Refusal) → r ≡ Err (refusal 19 0) → (c < concepts b) × (d < concepts b) → ¬ (Occurs b F c × Occurs b F d) → LookupMeans b F c d r
   absent_means c d r e below missing =
       record {
         yes_means = (λ q. absurd (yes_not_refused q e), λ (o, p, _). absurd (missing (o, p)));
@@ -118,7 +122,7 @@ module _ (b : List ℕ) (F : Axioms) (store : List ℕ) (catalogue : checked b �
         one_of = inr (inr (inl e));
       }
 
-  answer_means : (c d : ℕ) (r : Looked) (t : Bool) → says b store c d ≡ t → r ≡ looked accepted t → Occurs b F c × Occurs b F d → LookupMeans b F c d r
+  answer_means : (c d : ℕ) (r : Result Bool Refusal) (t : Bool) → says b store c d ≡ t → r ≡ looked accepted t → Occurs b F c × Occurs b F d → LookupMeans b F c d r
   answer_means c d r true h e (o, p) =
       let (yes-is, no-is) = meant c d o p in
       let below : (c < concepts b) × (d < concepts b) = (occurs_below b F wf range c o, occurs_below b F wf range d p) in
@@ -157,13 +161,13 @@ module _ (b : List ℕ) (F : Axioms) (store : List ℕ) (catalogue : checked b �
       outside_means c d (looked_up b c d store) (looked_refused b c d store (asks ∙ ask_no 15 0 _ out)) (λ l. not-both ((below_names c d).1 l) out))
 
   -- Two concepts that occur are answered.
-  pub occurring_answered : (c d : ℕ) → Occurs b F c → Occurs b F d → (looked_up b c d store ≡ Yes) ⊎ (looked_up b c d store ≡ No)
+  pub occurring_answered : (c d : ℕ) → Occurs b F c → Occurs b F d → (looked_up b c d store ≡ Ok true) ⊎ (looked_up b c d store ≡ Ok false)
   occurring_answered c d o p = go (lookup_means c d).one_of
     where
-      r : Looked
+      r : Result Bool Refusal
       r = looked_up b c d store
 
-      go : (r ≡ Yes) ⊎ ((r ≡ No) ⊎ ((r ≡ Refused 19 0) ⊎ (r ≡ Refused 15 0))) → (r ≡ Yes) ⊎ (r ≡ No)
+      go : (r ≡ Ok true) ⊎ ((r ≡ Ok false) ⊎ ((r ≡ Err (refusal 19 0)) ⊎ (r ≡ Err (refusal 15 0)))) → (r ≡ Ok true) ⊎ (r ≡ Ok false)
       go (inl e) = inl e
       go (inr (inl e)) = inr e
       go (inr (inr (inl e))) = absurd (((lookup_means c d).absent.0 e).2 (o, p))

@@ -9,6 +9,10 @@ use lib.Dec.{ltb}
 use lib.ListN.{length, drop, length-take}
 use denote.Ref.{Bor}
 use borrow.Author.Tests.{ltb-true, lt-ltb}
+use Rattle.std.proofs.Common.{Result, Ok, Err}
+use Rattle.row_parts.specs.declared.Place.{Place}
+use Rattle.catalogue.specs.declared.checks.Refusal.{Refusal}
+use Rattle.catalogue.specs.Verdicts.{refusal}
 use Rattle.catalogue.specs.Header.{concepts}
 use Rattle.catalogue.specs.Outcome.{Outcome, accepted, refused}
 use Rattle.catalogue.specs.Checks.{checked}
@@ -30,10 +34,8 @@ use Rattle.layout.proofs.StoreSizes.{width_fits}
 use Rattle.layout.proofs.StoreRows.{pair_row_bit}
 use Rattle.store.specs.Checks.{every, ask_numbers}
 use Rattle.read_checks.specs.Checks.{ask_occurs, read_checks}
-use Rattle.row_parts.specs.Rows.{row_answer, HandsOut}
+use Rattle.row_parts.specs.Rows.{row_answer, HandsOut, placed}
 use Rattle.meaning.specs.Meaning.{RowMeans}
-use Rattle.row_parts.specs.declared.Handed.{Handed}
-use Rattle.row_parts.specs.declared.Handed.TheVariants.{Row, Refused}
 use Rattle.store.proofs.Checks.{every_one}
 use Rattle.store.proofs.Says.{says_pair}
 use Rattle.row_parts.proofs.Answered.{row_accepted, row_refused}
@@ -41,11 +43,14 @@ use Rattle.meaning.proofs.DemandLookup.{read_asks, meant}
 
 -- ---- two answers are not one
 
-pub row_not_refused : {r : Handed} {offset size number at : ℕ} → r ≡ Row offset size → r ≡ Refused number at → ⊥
+pub row_not_refused : {r : Result Place Refusal} {offset size number at : ℕ} → r ≡ Ok (placed offset size) → r ≡ Err (refusal number at) → ⊥
 row_not_refused e f = let z : ◌≡◌ {A = ℕ} 0 1 = cc in omega arith
 
-pub one_number : {r : Handed} → r ≡ Refused 19 0 → r ≡ Refused 15 0 → ⊥
-one_number e f = let z : ◌≡◌ {A = ℕ} 19 15 = cc in omega arith
+pub one_number : {r : Result Place Refusal} → r ≡ Err (refusal 19 0) → r ≡ Err (refusal 15 0) → ⊥
+one_number e f =
+    let h : refusal 19 0 ≡ refusal 15 0 = cc in
+    let z : ◌≡◌ {A = ℕ} 19 15 = ap (λ (x : Refusal). x.number) h in
+    omega arith
 
 empty_clear : {part : List ℕ} → part ≡ [] → (d : ℕ) → bit part d ≡ false
 empty_clear {part} e d = bit_past part d (omega (arith, ap (λ (xs : List ℕ). length xs) e))
@@ -76,7 +81,7 @@ one_named b F store catalogue range few fresh c =
 -- ---- a row of a fresh store
 
 module _ (b : List ℕ) (F : Axioms) (store : Bor (List ℕ)) (catalogue : checked b ≡ accepted) (range : InRange b F) (few : axiom_count b F ≤ 4096) (fresh : Fresh b F store.now)
-    (c : ℕ) (part : Bor (List ℕ)) (answer : Handed)
+    (c : ℕ) (part : Bor (List ℕ)) (answer : Result Place Refusal)
     (h : HandsOut b c store part)
     (a : answer ≡ row_answer b c store.now)
   where
@@ -107,7 +112,7 @@ module _ (b : List ℕ) (F : Axioms) (store : Bor (List ℕ)) (catalogue : check
 
     handed_out : read_checks b (c ∷ []) store.now ≡ accepted → Occurs b F c → RowMeans b F c answer part.now
     handed_out e o =
-        let is : answer ≡ Row (pair_row_at b c) (width b) = a ∙ row_accepted b c store.now e in
+        let is : answer ≡ Ok (placed (pair_row_at b c) (width b)) = a ∙ row_accepted b c store.now e in
         record {
           hands_out = (λ _. o, λ _. is);
           bits = λ _ d p.
@@ -123,7 +128,7 @@ module _ (b : List ℕ) (F : Axioms) (store : Bor (List ℕ)) (catalogue : check
     refused_absent : read_checks b (c ∷ []) store.now ≡ refused 19 0 → c < concepts b → ¬ (Occurs b F c)
         → RowMeans b F c answer part.now
     refused_absent e l n =
-        let is : answer ≡ Refused 19 0 = a ∙ row_refused b c store.now e in
+        let is : answer ≡ Err (refusal 19 0) = a ∙ row_refused b c store.now e in
         record {
           hands_out = (λ q. absurd (row_not_refused q is), λ o. absurd (n o));
           bits = λ o. absurd (n o);
@@ -135,7 +140,7 @@ module _ (b : List ℕ) (F : Axioms) (store : Bor (List ℕ)) (catalogue : check
 
     refused_outside : read_checks b (c ∷ []) store.now ≡ refused 15 0 → ¬ (c < concepts b) → RowMeans b F c answer part.now
     refused_outside e m =
-        let is : answer ≡ Refused 15 0 = a ∙ row_refused b c store.now e in
+        let is : answer ≡ Err (refusal 15 0) = a ∙ row_refused b c store.now e in
         let n : ¬ (Occurs b F c) = λ o. m (below c o) in
         record {
           hands_out = (λ q. absurd (row_not_refused q is), λ o. absurd (n o));

@@ -6,12 +6,16 @@ use native.Mathlib.Omega.{arith}
 use mathlib.Core.Path.{◌≡◌, refl, sym, ap, ap₂, subst, ◌∙◌}
 use mathlib.Core.Bool.{Bool, true}
 use mathlib.Core.List.{List, [], ◌∷◌, ◌++◌}
+use denote.Ref.{Bor}
+use Rattle.std.proofs.Common.{Option, Some, None}
 use lib.ListN.{length, get_or, set, drop, length-append}
 use lib.Seq.{drop-cons}
 use Rattle.booleans.proofs.Booleans.{by_bool}
 use Rattle.rows.specs.Bits.{bit}
-use Rattle.rows.specs.Next.{NextBelow}
+use Rattle.rows.specs.Walking.{StepsOver}
+use Rattle.rows.specs.declared.walking.MarkedNumbers.{MarkedNumbers}
 use Rattle.rows.proofs.Counting.{count_le}
+use Rattle.rows.proofs.Walks.{OnWalk, on_walk_first, on_walk_next, on_walk_last}
 use Rattle.catalogue.specs.Words.{word, bytes_of}
 use Rattle.store.specs.Written.{rising, set_word}
 use Rattle.store.proofs.Rising.{rising_pass, rising_fail, rising_skip, length-rising}
@@ -73,35 +77,37 @@ filled_step test k list now after count r room f is e =
     subst (λ (names : List ℕ). Filled names list r after) (sym (rising_fail test k t))
     (record { counted = counted ∙ f.counted; entries = kept ∙ f.entries })))
 
--- A loop over the marked numbers of a row: it stands at c, one of them or the end, and those before c stand in front.
-pub record Walked (row : List ℕ) (n : ℕ) (list : List ℕ) (c count : ℕ) (now : List ℕ) : Type 0 where
-  pub within : c ≤ n
-  pub is_set : c < n → bit row c ≡ true
-  pub filled : Filled (rising (bit row) c) list count now
-
-walked_on : (row : List ℕ) (n a r : ℕ) (list : List ℕ) (count : ℕ) (now : List ℕ) → a ≤ n → Filled (rising (bit row) a) list count now → NextBelow row n a r → Walked row n list r count now
-walked_on row n a r list count now l f next =
-    record {
-      within = next.within;
-      is_set = next.is_set;
-      filled = subst (λ (names : List ℕ). Filled names list count now) (sym (rising_skip (bit row) a r (next.on l) next.none_between)) f;
-    }
+-- A loop over the marked numbers of a row: those that are passed stand in front.
+pub record Walked (row : List ℕ) (n : ℕ) (list : List ℕ) (i : MarkedNumbers) (count : ℕ) (now : List ℕ) : Type 0 where
+  pub on_walk : OnWalk row n i
+  pub filled : Filled (rising (bit row) i.from) list count now
 
 -- Nothing is entered before the first of them.
-pub walked_none : (row : List ℕ) (n r : ℕ) (list : List ℕ) → NextBelow row n 0 r → Walked row n list r 0 list
-walked_none row n r list next = walked_on row n 0 r list 0 list (omega arith) (filled_none (bit row) list) next
+pub walked_none : {row : Bor (List ℕ)} {n : ℕ} {i m : MarkedNumbers} (list : List ℕ) → i ≡ m → (m.row ≡ row) × (m.end ≡ n) × (m.from ≡ 0) → Walked row.now n list i 0 list
+walked_none {row} list e f =
+    let first = on_walk_first e f in
+    record { on_walk = first.0; filled = subst (λ (k : ℕ). Filled (rising (bit row.now) k) list 0 list) (sym first.1) (filled_none (bit row.now) list) }
 
--- The number at hand is entered, and the loop goes on to the next.
-pub walked_more : (row : List ℕ) (n c r : ℕ) (list now after : List ℕ) (count k : ℕ) → 2 * n ≤ length list → c < n → Walked row n list c count now → Entered true c count now k after → NextBelow row n (c + 1) r → Walked row n list r k after
-walked_more row n c r list now after count k room l w e next =
-    walked_on row n (c + 1) r list k after (omega arith)
-    (filled_step (bit row) c list now after count k (omega (arith, filled_most (bit row) c w.filled)) w.filled (sym (w.is_set l)) e)
-    next
+-- There is room for the number at hand, and it is entered.
+pub walked_room : {row list now : List ℕ} {n c count : ℕ} {i t : MarkedNumbers} {r : Option ℕ} → 2 * n ≤ length list → Walked row n list i count now → StepsOver i r t → r ≡ Some c → (2 * count + 1 < length list) × (c < n)
+walked_room {row} {i = i} room w step e =
+    let turn = on_walk_next w.on_walk step e in
+    (omega (arith, filled_most (bit row) i.from w.filled, turn.on, turn.below), turn.below)
+
+pub walked_more : {row list now after : List ℕ} {n c count k : ℕ} {i t : MarkedNumbers} {r : Option ℕ} → 2 * n ≤ length list → Walked row n list i count now → StepsOver i r t → r ≡ Some c → Entered true c count now k after → Walked row n list t k after
+walked_more {row} {list} {now} {after} {n} {c} {count} {k} {i} room w step e put =
+    let turn = on_walk_next w.on_walk step e in
+    let passed : Filled (rising (bit row) c) list count now = subst (λ (names : List ℕ). Filled names list count now) (sym (rising_skip (bit row) i.from c turn.on turn.none_between)) w.filled in
+    record {
+      on_walk = turn.on_walk;
+      filled = subst (λ (j : ℕ). Filled (rising (bit row) j) list k after) (sym turn.past)
+          (filled_step (bit row) c list now after count k (walked_room room w step e).0 passed (sym turn.is_set) put);
+    }
 
 -- At the end all of them are.
-pub walked_all : (row : List ℕ) (n c : ℕ) (list : List ℕ) (count : ℕ) (now : List ℕ) → n ≤ c → Walked row n list c count now → Filled (rising (bit row) n) list count now
-walked_all row n c list count now l w =
-    subst (λ (k : ℕ). Filled (rising (bit row) k) list count now) (let e : c ≡ n = omega (arith, w.within) in e) w.filled
+pub walked_all : {row list now : List ℕ} {n count : ℕ} {i t : MarkedNumbers} {r : Option ℕ} → Walked row n list i count now → StepsOver i r t → r ≡ None → Filled (rising (bit row) n) list count now
+walked_all {row} {list} {now} {n} {count} {i} w step e =
+    subst (λ (names : List ℕ). Filled names list count now) (sym (rising_skip (bit row) i.from n w.on_walk.within (on_walk_last w.on_walk step e))) w.filled
 
 -- ---- what the list says afterwards
 

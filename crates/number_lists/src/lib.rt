@@ -7,7 +7,9 @@ ghost use Rattle.store.specs.Written.{rising};
 ghost use Rattle.number_lists.specs.Lists.{Filled, Entered};
 
 use reader::put_number;
-use rows::next_below;
+use rows::marked;
+
+// The list is lent, and its count is beside it: nothing is allocated.
 
 // Enters number c after so many others, if `on`, and answers how many there are then.
 pub fn enter(list: &mut [u8], count: usize, c: usize, on: bool) -> usize
@@ -27,10 +29,8 @@ pub fn list_marked(row: &[u8], n: usize, list: &mut [u8]) -> usize
     ensures { Filled (rising (bit row.now) n) list.old result list.new }
 {
     let mut count: usize = 0;
-    let mut c = next_below(row, n, 0);
-    while c < n {
+    for c in marked(row, n) {
         count = enter(list, count, c, true);
-        c = next_below(row, n, c + 1);
     }
     count
 }

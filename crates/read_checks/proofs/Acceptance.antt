@@ -19,6 +19,11 @@ use Rattle.store.specs.Checks.{every, store_fits, list_fits, axioms_in_limit, as
 use Rattle.store.proofs.Checks.{every_one, two_numbers}
 use Rattle.read_checks.specs.Checks.{ask_occurs, open_checks, content_checks, read_checks, list_checks, Named}
 
+-- The questions opened, for proofs that ask them one by one.
+unfoldable pub questions : Unit {0}
+unfolding open_checks content_checks ask_store ask_spare ask_limit ask_numbers ask_occurs ask
+questions = tt
+
 -- ---- concepts named
 
 pub every_twice : (test : ℕ → Bool) (c : ℕ) → every test (c ∷ c ∷ []) ≡ every test (c ∷ [])

@@ -1,3 +1,2 @@
-pub mod Held
 pub mod Copying
 pub mod Acceptance

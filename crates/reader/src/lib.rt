@@ -1,5 +1,5 @@
 // A reader over a catalogue: the lent bytes together with a position (document 01, Catalogue bytes).
-// The functions over the struct are thin and proved by hand; the work is done by functions on a slice and numbers.
+// The functions over the struct are thin: the work is done by functions on a slice and numbers.
 #![tactic(auto)]
 
 ghost use Rattle.std.specs.Prelude.{◌≡◌, ◌+◌, ◌*◌, ◌/◌, ◌%◌, ◌^◌, ◌<◌, ◌≤◌, length, set};
@@ -62,10 +62,8 @@ pub fn copy_numbers(src: &[u8], at: usize, dst: &mut [u8], to: usize, count: usi
     requires { (at + 2 * count ≤ length src.now) × (to + 2 * count ≤ length dst.old) }
     ensures { dst.new ≡ copied src.now at dst.old to (2 * count) }
 {
-    let mut k = 0;
-    while k < count {
+    for k in 0..count {
         let n = number_after(src, at, 2 * k);
         put_number(dst, to + 2 * k, n);
-        k += 1;
     }
 }

@@ -6,6 +6,7 @@ use mathlib.Core.Path.{◌≡◌, refl, sym, ◌∙◌}
 use mathlib.Core.Logic.{◌↔◌}
 use mathlib.Core.List.{List, [], ◌∷◌}
 use lib.ListN.{length}
+use Rattle.std.proofs.Common.{Ok, Err}
 use Rattle.catalogue.specs.Outcome.{Outcome, accepted}
 use Rattle.catalogue.proofs.Outcomes.{never_both}
 use Rattle.catalogue.proofs.Refusals.{Small, small_checked}
@@ -14,16 +15,14 @@ use Rattle.change_contract.specs.Edits.{lend}
 use Rattle.change_contract.proofs.Refusals.{small_edit}
 use Rattle.read_checks.proofs.Refusals.{small_read, small_list}
 use Rattle.writing.proofs.Refusals.{small_write}
-use Rattle.replies.specs.declared.Reply.{Reply}
-use Rattle.replies.specs.declared.Reply.TheVariants.{Accepted, Refused}
-use Rattle.replies.specs.Answers.{returned, Exported}
+use Rattle.replies.specs.Answers.{returned, Exported, Reply}
 use Rattle.replies.specs.Accepted.{ZeroExactly, ZeroIfAccepted}
 use Rattle.replies.proofs.Replies.{outcome_of, check_outcome, classify_outcome, change_outcome, lookup_outcome_lem, list_outcome_lem, row_outcome_lem, write_outcome}
 
 reply_zero : {o : Outcome} (reply : Reply) → outcome_of reply ≡ o → Small o → (returned reply ≡ 0) ↔ (o ≡ accepted)
-reply_zero (Accepted first second third fourth) e s = (λ _. sym e, λ _. refl)
-reply_zero {o} (Refused number at) e s =
-    (λ z. absurd (let n : ⊥ = omega (arith, s.small number at (sym e)) in n), λ a. absurd (never_both o a (sym e)))
+reply_zero (Ok entries) e s = (λ _. sym e, λ _. refl)
+reply_zero {o} (Err x) e s =
+    (λ z. absurd (let n : ⊥ = omega (arith, s.small x.number x.at (sym e)) in n), λ a. absurd (never_both o a (sym e)))
 
 -- Of any call whose replies refuse as its questions do.
 pub exported_zero : {C L : Type 0} {Calls : C → L → Type 0} {reply_of : C → Reply} {lent lent' : L} {answer answer' : List ℕ} {r : ℕ} {o : Outcome} → Small o

@@ -4,8 +4,7 @@ use native.Mathlib.Omega.{arith}
 use mathlib.Core.Path.{◌≡◌, refl}
 use mathlib.Core.List.{List}
 use lib.ListN.{length}
-use Rattle.replies.specs.declared.Reply.{Reply}
-use Rattle.replies.specs.Answers.{Given, Exported}
+use Rattle.replies.specs.Answers.{Given, Exported, Reply}
 
 module _ {C L : Type 0} {Calls : C → L → Type 0} {reply_of : C → Reply} {lent : L} {answer : List ℕ} where
   pub exported_short : length answer < 4 → Exported Calls reply_of lent answer 65535 lent answer

@@ -5,6 +5,8 @@ use native.Mathlib.Omega.{arith}
 use mathlib.Core.Path.{◌≡◌, refl, sym, ap, ◌∙◌}
 use mathlib.Core.List.{List}
 use lib.ListN.{length}
+use Rattle.std.proofs.Common.{Result}
+use Rattle.catalogue.specs.declared.checks.Refusal.{Refusal}
 use Rattle.classification.specs.declared.Classified.{Classified}
 use Rattle.classification.specs.Classified.{Classifies}
 use Rattle.classification.proofs.Unique.{classifies_unique}
@@ -12,8 +14,7 @@ use Rattle.change_contract.specs.Edits.{lend}
 use Rattle.change_contract.proofs.Unique.{edit_unique}
 use Rattle.lookups.proofs.Unique.{lists_unique}
 use Rattle.writing.proofs.Unique.{by_outcome_unique}
-use Rattle.replies.specs.declared.Reply.{Reply}
-use Rattle.replies.specs.Answers.{returned, entries, Exported}
+use Rattle.replies.specs.Answers.{returned, entries, Exported, Reply}
 use Rattle.replies.specs.Check.{CheckExported}
 use Rattle.replies.specs.Classify.{ClassifyExported}
 use Rattle.replies.specs.Change.{ChangeExported}
@@ -47,7 +48,7 @@ check_unique b answer r r' a a' p q =
     let u = exported_unique (λ call call' x y. (x ∙ sym y, refl)) p q in
     (u.0, u.2)
 
-classifies_one : (b store work : List ℕ) (s s' w w' : List ℕ) (call call' : Classified) → Classifies b store work call s w → Classifies b store work call' s' w'
+classifies_one : (b store work : List ℕ) (s s' w w' : List ℕ) (call call' : Result Classified Refusal) → Classifies b store work call s w → Classifies b store work call' s' w'
     → (call ≡ call') × ◌≡◌ {A = List ℕ × List ℕ} (s, w) (s', w')
 classifies_one b store work s s' w w' call call' x y =
     let u = classifies_unique b store work call call' s s' w w' x y in

@@ -1,21 +1,29 @@
 -- How an exported function answers: a number returned, and four entries of a list. One definition for every call.
-use Rattle.std.specs.Prelude.{ℕ, ◌+◌, ◌*◌, ◌≤◌, ◌<◌, ◌≡◌, Bool, true, false, List, length, set}
-use Rattle.replies.specs.declared.Reply.{Reply}
-use Rattle.replies.specs.declared.Reply.TheVariants.{Accepted, Refused}
+use Rattle.std.specs.Prelude.{ℕ, ◌+◌, ◌*◌, ◌≤◌, ◌<◌, ◌≡◌, Bool, true, false, List, length, set, Result, Ok, Err}
+use Rattle.catalogue.specs.declared.checks.Refusal.{Refusal}
+use Rattle.replies.specs.declared.Entries.{Entries}
+
+-- What an exported call replies: the four entries, or the refusal.
+abbrev pub Reply : Type 0
+Reply = Result Entries Refusal
+
+-- Four entries.
+abbrev pub four : (first second third fourth : ℕ) → Entries
+four a b c d = record { first = a; second = b; third = c; fourth = d }
 
 -- The number that a reply returns: 0 where it is accepted; where it is refused, that of the question and 65,536 times the record at fault.
 abbrev pub returned : Reply → ℕ
-returned (Accepted first second third fourth) = 0
-returned (Refused number at) = number + 65536 * at
+returned (Ok e) = 0
+returned (Err e) = e.number + 65536 * e.at
 
 -- The answer with its four entries written. Those from 4 on are never written.
-unfoldable pub answered : (first second third fourth : ℕ) → List ℕ → List ℕ
-answered first second third fourth answer = set (set (set (set answer 0 first) 1 second) 2 third) 3 fourth
+unfoldable pub answered : Entries → List ℕ → List ℕ
+answered e answer = set (set (set (set answer 0 e.first) 1 e.second) 2 e.third) 3 e.fourth
 
 -- The answer after a reply: as it was where it is refused.
 abbrev pub entries : Reply → List ℕ → List ℕ
-entries (Accepted first second third fourth) answer = answered first second third fourth answer
-entries (Refused number at) answer = answer
+entries (Ok e) answer = answered e answer
+entries (Err e) answer = answer
 
 -- A reply given: the number returned, and the answer afterwards.
 pub record Given (reply : Reply) (answer : List ℕ) (r : ℕ) (answer' : List ℕ) : Type 0 where

@@ -1,16 +1,13 @@
 -- What girvotal_write answers and leaves, by write's own definitions.
-use Rattle.std.specs.Prelude.{ℕ, List}
-use Rattle.writing.specs.declared.Wrote.{Wrote}
-use Rattle.writing.specs.declared.Wrote.TheVariants.{Length}
+use Rattle.std.specs.Prelude.{ℕ, List, Result, Ok, Err}
+use Rattle.catalogue.specs.declared.checks.Refusal.{Refusal}
 use Rattle.writing.specs.Write.{Writes}
-use Rattle.replies.specs.declared.Reply.{Reply}
-use Rattle.replies.specs.declared.Reply.TheVariants.{Accepted}
-use Rattle.replies.specs.Answers.{Exported}
+use Rattle.replies.specs.Answers.{Reply, four, Exported}
 
 -- The length, 0, 0, 0.
-abbrev pub write_reply : Wrote → Reply
-write_reply (Length long) = Accepted long 0 0 0
-write_reply (Wrote.Refused number at) = Reply.Refused number at
+abbrev pub write_reply : Result ℕ Refusal → Reply
+write_reply (Ok long) = Ok (four long 0 0 0)
+write_reply (Err e) = Err e
 
 -- The buffer lent is the output.
 abbrev pub WriteExported : (b store output answer : List ℕ) (r : ℕ) (output' answer' : List ℕ) → Type 0

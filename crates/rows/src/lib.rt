@@ -8,14 +8,7 @@ ghost use Rattle.rows.specs.Bits.{bit, set_bit, set_if, clear_bit, or_row, count
 ghost use Rattle.rows.specs.Next.{next_bit, NextBelow};
 ghost use Rattle.rows.specs.Words.{number_at};
 
-pub use walking::gather;
-
-// The lowest set bit from a given one on, or none.
-#[derive(Clone, Copy)]
-pub enum Found {
-    At(usize),
-    Nothing,
-}
+pub use walking::{gather, marked};
 
 // Whether bit i is set; a bit past the end is clear.
 pub fn has(row: &[u8], i: usize) -> bool
@@ -80,10 +73,8 @@ pub fn or_into(row: &mut [u8], other: &[u8])
     requires { length other.now ≡ length row.old }
     ensures { row.new ≡ or_row row.old other.now }
 {
-    let mut i = 0;
-    while i < row.len() {
-        row[i] |= other[i];
-        i += 1;
+    for (i, byte) in row.iter_mut().enumerate() {
+        *byte |= other[i];
     }
 }
 
@@ -92,10 +83,8 @@ pub fn any(row: &[u8]) -> bool
     ensures { result ≡ any_bit row.now }
 {
     let mut found = false;
-    let mut i = 0;
-    while i < row.len() {
-        found |= row[i] != 0;
-        i += 1;
+    for byte in row {
+        found |= *byte != 0;
     }
     found
 }
@@ -106,25 +95,25 @@ pub fn count(row: &[u8]) -> usize
     ensures { result ≡ count_bits row.now }
 {
     let mut total: usize = 0;
-    let mut k = 0;
-    while 8 <= row.len() - k {
-        total += u64::count_ones(word(row, k)) as usize;
-        k += 8;
+    let words = row.len() / 8;
+    for k in 0..words {
+        total += word(row, 8 * k).count_ones() as usize;
     }
-    total + count_by_bytes(row, k)
+    total + count_by_bytes(row, 8 * words)
 }
 
 // The lowest set bit from a given one on, itself included; the given one may lie past the end. The word that holds it is read without the bits below
 // it, then whole words, then what is left byte by byte.
-pub fn next(row: &[u8], from: usize) -> Found
+pub fn next(row: &[u8], from: usize) -> Option<usize>
     requires { length row.now ≤ 1048576 }
     ensures { result ≡ next_bit row.now from }
 {
+    // The first word is entered in its middle: no range has these steps.
     let mut i = from;
     while i / 64 * 8 + 8 <= row.len() {
         let rest = word(row, i / 64 * 8) >> (i % 64);
         if rest != 0 {
-            return Found::At(i + u64::trailing_zeros(rest) as usize);
+            return Some(i + rest.trailing_zeros() as usize);
         }
         i = i / 64 * 64 + 64;
     }
@@ -137,8 +126,8 @@ pub fn next_below(row: &[u8], n: usize, from: usize) -> usize
     ensures { NextBelow row.now n from result }
 {
     match next(row, from) {
-        Found::At(i) => { if i < n { i } else { n } }
-        Found::Nothing => n,
+        Some(i) => { if i < n { i } else { n } }
+        None => n,
     }
 }
 
@@ -148,10 +137,8 @@ pub fn word(row: &[u8], at: usize) -> u64
     ensures { result ≡ number_at row.now at 8 }
 {
     let mut number: u64 = 0;
-    let mut k = 0;
-    while k < 8 {
+    for k in 0..8 {
         number |= (row[at + k] as u64) << (8 * k);
-        k += 1;
     }
     number
 }
@@ -162,26 +149,25 @@ fn count_by_bytes(row: &[u8], from: usize) -> usize
     ensures { count_below (bit row.now) (8 * from) + result ≡ count_bits row.now }
 {
     let mut total: usize = 0;
-    let mut k = from;
-    while k < row.len() {
-        total += u8::count_ones(row[k]) as usize;
-        k += 1;
+    for k in from..row.len() {
+        total += row[k].count_ones() as usize;
     }
     total
 }
 
 // The lowest set bit from a given one on, byte by byte.
-fn next_by_bytes(row: &[u8], from: usize) -> Found
+fn next_by_bytes(row: &[u8], from: usize) -> Option<usize>
     requires { length row.now ≤ 1048576 }
     ensures { result ≡ next_bit row.now from }
 {
+    // The first byte is entered in its middle: no range has these steps.
     let mut i = from;
     while i / 8 < row.len() {
         let rest = row[i / 8] >> (i % 8);
         if rest != 0 {
-            return Found::At(i + u8::trailing_zeros(rest) as usize);
+            return Some(i + rest.trailing_zeros() as usize);
         }
         i = i / 8 * 8 + 8;
     }
-    Found::Nothing
+    None
 }

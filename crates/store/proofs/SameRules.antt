@@ -6,7 +6,7 @@ use mathlib.Core.Logic.{◌↔◌}
 use mathlib.Core.Bool.{Bool, not}
 use mathlib.Core.List.{List}
 use lib.ListN.{length, take, drop}
-use Rattle.catalogue.specs.Header.{concepts, roles}
+use Rattle.catalogue.specs.Header.{concepts}
 use Rattle.catalogue.specs.WellFormed.{WellFormed}
 use Rattle.rows.specs.Bits.{some_below}
 use Rattle.derivation.specs.Systems.{by}

@@ -57,12 +57,10 @@ fn last_bytes_clear(rows: &[u8], w: usize, count: usize, i: usize) -> bool
     requires { InLastByte w count i rows.now }
     ensures { result ≡ not (some_below (set_from w i rows.now) count) }
 {
-    let mut r = 0;
-    while r < count {
+    for r in 0..count {
         if rows[r * w + i / 8] >> (i % 8) != 0 {
             return false;
         }
-        r += 1;
     }
     true
 }

@@ -4,17 +4,17 @@ use Prim.Native.Nat.{ℕ, ◌<◌}
 use native.Mathlib.Omega.{arith}
 use mathlib.Core.Path.{◌≡◌, sym, ap, ◌∙◌}
 use mathlib.Core.List.{List}
+use Rattle.std.proofs.Common.{Result, Ok}
 use Rattle.catalogue.specs.Header.{roles}
 use Rattle.catalogue.specs.Outcome.{accepted}
 use Rattle.catalogue.specs.Checks.{checked}
 use Rattle.catalogue.specs.WellFormed.{WellFormed}
 use Rattle.catalogue.specs.Verdicts.{outcome_of}
-use Rattle.catalogue.specs.declared.checks.Verdict.{Verdict}
-use Rattle.catalogue.specs.declared.checks.Verdict.TheVariants.{Accepted}
+use Rattle.catalogue.specs.declared.checks.Refusal.{Refusal}
 use Rattle.catalogue.proofs.Accepted.{accepted_well_formed}
 
 -- A catalogue that the check accepts is well-formed.
-pub verdict_well_formed : {b : List ℕ} (v : Verdict) → outcome_of v ≡ checked b → v ≡ Accepted → WellFormed b
+pub verdict_well_formed : {b : List ℕ} {u : Unit} (v : Result Unit Refusal) → outcome_of v ≡ checked b → v ≡ Ok u → WellFormed b
 verdict_well_formed v e a = accepted_well_formed (sym e ∙ ap outcome_of a)
 
 -- Every role of the catalogue has its place in the square.

@@ -4,7 +4,7 @@ use native.Mathlib.Decide.{ℕ_discrete}
 use native.Mathlib.Nat.{lt-suc_self}
 use native.Mathlib.Numerals.{add-one}
 use native.Mathlib.Omega.{arith}
-use mathlib.Core.Path.{◌≡◌, refl, sym, ap, subst, subst⁻¹, ◌∙◌}
+use mathlib.Core.Path.{◌≡◌, refl, sym, subst, subst⁻¹, ◌∙◌}
 use mathlib.Core.Logic.{◌⊎◌, inl, inr, ◌↔◌, ⊎_elim, ⊎_map}
 use mathlib.Core.Bool.{Bool, true, false, false≢true, ◌&&◌, ◌||◌, or-true}
 use mathlib.Core.List.{List}
@@ -99,22 +99,6 @@ either false false z e = absurd (false≢true e)
 joined : (x y z : Bool) → (x ≡ true) ⊎ ((y ≡ true) × (z ≡ true)) → (x || (y && z)) ≡ true
 joined x y z (inl e) = rw e
 joined x y z (inr (e, f)) = rw (e, f) (or-true x)
-
--- One inclusion more.
-pub included_more : (b : List ℕ) (k r s : ℕ) → (Included b k r s ⊎ ((r ≡ within b k) × (s ≡ around b k))) ↔ Included b (k + 1) r s
-included_more b k r s = (to, from)
-  where
-    to : Included b k r s ⊎ ((r ≡ within b k) × (s ≡ around b k)) → Included b (k + 1) r s
-    to (inl (inl e)) = inl e
-    to (inl (inr (j, l, e, f))) = inr (j, omega (arith, l), e, f)
-    to (inr (e, f)) = inr (k, omega arith, sym e, sym f)
-
-    last : (j : ℕ) → j ≡ k → within b j ≡ r → around b j ≡ s → (r ≡ within b k) × (s ≡ around b k)
-    last j e f g = (sym f ∙ ap (within b) e, sym g ∙ ap (around b) e)
-
-    from : Included b (k + 1) r s → Included b k r s ⊎ ((r ≡ within b k) × (s ≡ around b k))
-    from (inl e) = inl (inl e)
-    from (inr (j, l, e, f)) = elim (ℕ_discrete j k) [ yes h ↦ inr (last j h e f) | no n ↦ inl (inr (j, omega (arith, l), e, f)) ]
 
 -- A Warshall step: one role more between.
 pub through_exact : (b : List ℕ) (k : ℕ) (square next : Square) → k < 16 → MarksExactly (Via b k) square → Through k square next → MarksExactly (Via b (k + 1)) next

@@ -15,10 +15,8 @@ fn reflexive() -> Square
     ensures marks_exactly { MarksExactly (λ (r s : ℕ). r ≡ s) result }
 {
     let mut square = [[false; Concept::ROLES]; Concept::ROLES];
-    let mut role = 0;
-    while role < Concept::ROLES {
+    for role in 0..Concept::ROLES {
         square[role][role] = true;
-        role += 1;
     }
     square
 }
@@ -30,13 +28,11 @@ fn included(b: &[u8]) -> Square
 {
     let mut square = reflexive();
     let count = inclusions(b);
-    let mut k = 0;
-    while k < count {
+    for k in 0..count {
         let inclusion = Inclusion::at(b, k);
         let r = inclusion.within;
         let s = inclusion.around;
         square[r][s] = true;
-        k += 1;
     }
     square
 }
@@ -48,10 +44,8 @@ fn row_through(square: Square, k: usize, r: usize) -> [bool; Concept::ROLES]
     ensures { (s : ℕ) → s < 16 → get_or result s false ≡ mark_through k square r s }
 {
     let mut row = [false; Concept::ROLES];
-    let mut s = 0;
-    while s < Concept::ROLES {
+    for s in 0..Concept::ROLES {
         row[s] = square[r][s] | (square[r][k] & square[k][s]);
-        s += 1;
     }
     row
 }
@@ -62,11 +56,8 @@ fn through(square: Square, k: usize) -> Square
     ensures { Through k square result }
 {
     let mut next = [[false; Concept::ROLES]; Concept::ROLES];
-    let mut r = 0;
-    while r < Concept::ROLES {
-        let row = row_through(square, k, r);
-        next[r] = row;
-        r += 1;
+    for r in 0..Concept::ROLES {
+        next[r] = row_through(square, k, r);
     }
     next
 }
@@ -77,11 +68,9 @@ pub fn close_roles(b: &[u8]) -> Square
     ensures { Closed b.now result }
 {
     let mut square = included(b);
-    let mut k = 0;
-    while k < Concept::ROLES {
+    for k in 0..Concept::ROLES {
         let next = through(square, k);
         square = next;
-        k += 1;
     }
     square
 }

@@ -5,28 +5,12 @@
 pub mod sequences; // sequences.rt: bytes and entries in a row
 
 ghost use Rattle.std.specs.Prelude.{◌≡◌, ◌+◌, ◌≤◌, ◌<◌, min, length, replicate};
-ghost use Rattle.std.specs.Io.{ReadsAtMost};
 ghost use Rattle.catalogue.specs.Words as words;
 
 use checksum::fnv1a;
+pub use reading::read_full;
 pub use sequences::{say_digits, say_reply};
 use std::io;
-use std::io::Read;
-
-// Reads to the end of the input, or until the buffer is full, and says how many bytes it read.
-pub fn read_full<R: Read>(input: &mut R, buffer: &mut [u8]) -> io::Result<usize>
-    ensures { ReadsAtMost result buffer.new }
-{
-    let mut done = 0;
-    while done < buffer.len() {
-        let n = input.read(&mut buffer[done..])?;
-        if n == 0 {
-            break;
-        }
-        done += n;
-    }
-    Ok(done)
-}
 
 // The number at a byte of the input, in two bytes.
 pub fn short_at(text: &[u8], at: usize) -> usize
@@ -63,11 +47,7 @@ pub fn end_at(text: &[u8], at: usize, start: usize) -> usize
 pub fn fill(buffer: &mut [u8], byte: u8)
     ensures { buffer.new ≡ replicate (length buffer.old) byte }
 {
-    let mut i = 0;
-    while i < buffer.len() {
-        buffer[i] = byte;
-        i += 1;
-    }
+    buffer.fill(byte);
 }
 
 // Writes a word and a number.

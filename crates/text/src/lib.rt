@@ -8,6 +8,8 @@ ghost use Rattle.text.specs.Text.{decimal, summary, refusal, pair_line, Appended
 
 pub use lines::listing_text;
 
+// Texts are put into a buffer that is lent, from a place on, and the place after them is answered: nothing is allocated.
+
 // Appends a text after the first `at` bytes of a buffer, and answers the place after it.
 pub fn put_text(out: &mut [u8], at: usize, text: &[u8]) -> usize
     requires { at + length text.now ≤ length out.old }

@@ -38,10 +38,8 @@ fn put_row(b: &[u8], c: usize, store: &[u8], out: &mut [u8], at: usize) -> usize
 {
     let n = catalogue::concepts(b);
     let mut place = at;
-    let mut d = 0;
-    while d < n {
+    for d in 0..n {
         place = put_named(b, c, d, store, out, place);
-        d += 1;
     }
     place
 }
@@ -53,10 +51,8 @@ fn put_rows(b: &[u8], store: &[u8], out: &mut [u8], at: usize) -> usize
 {
     let n = catalogue::concepts(b);
     let mut place = at;
-    let mut c = 0;
-    while c < n {
+    for c in 0..n {
         place = put_row(b, c, store, out, place);
-        c += 1;
     }
     place
 }

@@ -2,6 +2,8 @@
 use mathlib.Core.Path.{◌≡◌, refl, sym, ap, ap₂, ◌∙◌, subst}
 use mathlib.Core.Bool.{Bool, true, false}
 use mathlib.Core.List.{List, [], ◌∷◌, ◌++◌, append_assoc}
+use denote.Ref.{Bor}
+use Rattle.std.proofs.Common.{Option, Some, None}
 use Prim.Native.Nat.{ℕ, suc, ◌+◌, ◌-◌, ◌*◌, ◌/◌, ◌%◌, ◌≤◌, ◌<◌}
 use native.Mathlib.Omega.{arith}
 use native.Mathlib.Numerals.{add-one}
@@ -12,8 +14,10 @@ use Rattle.store.specs.Written.{rising, sides_of, set_word}
 use Rattle.store.proofs.Rising.{rising_pass, rising_skip}
 use Rattle.store.proofs.Written.{number-left, number-right}
 use Rattle.rows.specs.Bits.{bit, count_below}
-use Rattle.rows.specs.Next.{NextBelow}
+use Rattle.rows.specs.Walking.{StepsOver}
+use Rattle.rows.specs.declared.walking.MarkedNumbers.{MarkedNumbers}
 use Rattle.rows.proofs.Counting.{count_pass, count_skip, count_up}
+use Rattle.rows.proofs.Walks.{OnWalk, Turn, on_walk_first, on_walk_next, on_walk_last}
 use Rattle.writing.specs.Records.{Recorded, WritesRow}
 
 bytes_append : (xs ys : List ℕ) → bytes_of (xs ++ ys) ≡ bytes_of xs ++ bytes_of ys
@@ -85,66 +89,63 @@ recorded_skip n test p q head out at l none r =
 
 -- ---- the loop over one row
 
--- The records of the right sides below `right` are written, and `right` is the next one, or n.
-pub record RowState (row : List ℕ) (n left : ℕ) (out₀ : List ℕ) (start : ℕ) (out : List ℕ) (at right : ℕ) : Type 0 where
+-- The records of the right sides that are passed are written.
+pub record RowState (row : List ℕ) (n left : ℕ) (out₀ : List ℕ) (start : ℕ) (out : List ℕ) (at : ℕ) (i : MarkedNumbers) : Type 0 where
+  pub on_walk : OnWalk row n i
   pub long : length out ≡ length out₀
-  pub within : right ≤ n
-  pub is_set : right < n → bit row right ≡ true
-  pub ends : at ≡ start + 4 * count_below (bit row) right
-  pub recorded : (test : ℕ → Bool) (head : List ℕ) → ((d : ℕ) → d < n → test (left * n + d) ≡ bit row d) → Recorded n test (left * n) head out₀ start → Recorded n test (left * n + right) head out at
+  pub ends : at ≡ start + 4 * count_below (bit row) i.from
+  pub recorded : (test : ℕ → Bool) (head : List ℕ) → ((d : ℕ) → d < n → test (left * n + d) ≡ bit row d) → Recorded n test (left * n) head out₀ start → Recorded n test (left * n + i.from) head out at
 
+-- Numbers that are not marked are passed over.
 shifted : (row : List ℕ) (n left : ℕ) (test : ℕ → Bool) → ((d : ℕ) → d < n → test (left * n + d) ≡ bit row d) → (a b : ℕ) → b ≤ n → ((i : ℕ) → a ≤ i → i < b → bit row i ≡ false) → (i : ℕ) → left * n + a ≤ i → i < left * n + b → test i ≡ false
 shifted row n left test agree a b l none i p q =
     let d = i - left * n in
     let there : left * n + d ≡ i = omega arith in
     ap test (sym there) ∙ agree d (omega arith) ∙ none d (omega arith) (omega arith)
 
-pub row_begins : (row : List ℕ) (n left : ℕ) (out : List ℕ) (start right : ℕ) → NextBelow row n 0 right → RowState row n left out start out start right
+pub row_begins : {row : Bor (List ℕ)} {n : ℕ} {i m : MarkedNumbers} (left : ℕ) (out : List ℕ) (start : ℕ) → i ≡ m → (m.row ≡ row) × (m.end ≡ n) × (m.from ≡ 0) → RowState row.now n left out start out start i
 unfolding count_below
-row_begins row n left out start right f =
+row_begins {row} {n} {i} left out start e f =
+    let first = on_walk_first e f in
     record {
+      on_walk = first.0;
       long = refl;
-      within = f.within;
-      is_set = f.is_set;
-      ends =
-          let none : count_below (bit row) right ≡ 0 = count_skip (bit row) 0 right (omega arith) (λ i p q. f.none_between i p q) in
-          omega (arith, none);
-      recorded = λ test head agree r.
-          recorded_skip n test (left * n) (left * n + right) head out start (omega arith)
-          (λ i p q. shifted row n left test agree 0 right f.within (λ k x y. f.none_between k x y) i (omega arith) q) r;
+      ends = let none : count_below (bit row.now) i.from ≡ 0 = ap (count_below (bit row.now)) first.1 in omega (arith, none);
+      recorded = λ test head agree r. subst (λ (k : ℕ). Recorded n test k head out start) (let z : left * n ≡ left * n + i.from = omega (arith, first.1) in z) r;
     }
 
-pub row_goes_on : (row : List ℕ) (n left : ℕ) (out₀ : List ℕ) (start : ℕ) (out : List ℕ) (at right : ℕ) (out' : List ℕ) (right' : ℕ) → RowState row n left out₀ start out at right → right < n → at + 3 < length out → out' ≡ set_word (set_word out at left) (at + 2) right → NextBelow row n (right + 1) right' → RowState row n left out₀ start out' (at + 4) right'
-row_goes_on row n left out₀ start out at right out' right' s l room e f =
-    let is : bit row right ≡ true = s.is_set l in
-    let beyond : right + 1 ≤ right' = f.on (omega arith) in
+-- The number at hand is counted after those passed.
+counted : {row : List ℕ} {n from right : ℕ} {t : MarkedNumbers} → Turn row n from right t → count_below (bit row) (right + 1) ≡ suc (count_below (bit row) from)
+counted {row} {from = from} {right = right} turn =
+    ap (count_below (bit row)) (add-one right)
+    ∙ count_pass (bit row) right turn.is_set
+    ∙ ap suc (count_skip (bit row) from right turn.on turn.none_between)
+
+-- There is room for its record.
+pub row_room : {row out₀ out : List ℕ} {n left start at right : ℕ} {i t : MarkedNumbers} {r : Option ℕ} → RowState row n left out₀ start out at i → StepsOver i r t → r ≡ Some right → start + 4 * count_below (bit row) n ≤ length out₀ → (at + 3 < length out) × (right < n)
+row_room {row} {n = n} {right = right} s step e room =
+    let turn = on_walk_next s.on_walk step e in
+    (omega (arith, s.ends, s.long, room, counted turn, count_up (bit row) (right + 1) n (omega (arith, turn.below))), turn.below)
+
+pub row_goes_on : {row out₀ out out' : List ℕ} {n left start at right : ℕ} {i t : MarkedNumbers} {r : Option ℕ} → RowState row n left out₀ start out at i → StepsOver i r t → r ≡ Some right → start + 4 * count_below (bit row) n ≤ length out₀ → out' ≡ set_word (set_word out at left) (at + 2) right
+    → RowState row n left out₀ start out' (at + 4) t
+row_goes_on {row} {out = out} {out' = out'} {n = n} {left = left} {at = at} {right = right} {i = i} s step e room put =
+    let turn = on_walk_next s.on_walk step e in
     record {
-      long = ap length e ∙ length_words out at left right ∙ s.long;
-      within = f.within;
-      is_set = f.is_set;
-      ends =
-          let skipped : count_below (bit row) right' ≡ count_below (bit row) (right + 1) = count_skip (bit row) (right + 1) right' beyond (λ i p q. f.none_between i p q) in
-          let one : count_below (bit row) (right + 1) ≡ suc (count_below (bit row) right) = ap (count_below (bit row)) (add-one right) ∙ count_pass (bit row) right is in
-          omega (arith, s.ends, skipped, one);
+      on_walk = turn.on_walk;
+      long = ap length put ∙ length_words out at left right ∙ s.long;
+      ends = omega (arith, s.ends, counted turn, ap (count_below (bit row)) turn.past);
       recorded = λ test head agree r.
-          recorded_skip n test (left * n + (right + 1)) (left * n + right') head out' (at + 4) (omega arith)
-          (shifted row n left test agree (right + 1) right' f.within (λ k x y. f.none_between k x y))
-          (subst (λ (o : List ℕ). Recorded n test (left * n + (right + 1)) head o (at + 4)) (sym e)
-          (recorded_more n test left right head out at l (agree right l ∙ is) room (s.recorded test head agree r)));
+          let passed = recorded_skip n test (left * n + i.from) (left * n + right) head out at (omega (arith, turn.on)) (shifted row n left test agree i.from right (omega (arith, turn.below)) turn.none_between) (s.recorded test head agree r) in
+          let one = recorded_more n test left right head out at turn.below (agree right turn.below ∙ turn.is_set) (row_room s step e room).0 passed in
+          rw (put, turn.past) one;
     }
 
--- There is room for the record of the next right side.
-pub row_room : (row : List ℕ) (n left : ℕ) (out₀ : List ℕ) (start : ℕ) (out : List ℕ) (at right : ℕ) → RowState row n left out₀ start out at right → right < n → start + 4 * count_below (bit row) n ≤ length out₀ → at + 3 < length out
-row_room row n left out₀ start out at right s l room =
-    let one : count_below (bit row) (suc right) ≡ suc (count_below (bit row) right) = count_pass (bit row) right (s.is_set l) in
-    let up : count_below (bit row) (suc right) ≤ count_below (bit row) n = count_up (bit row) (suc right) n (omega arith) in
-    omega (arith, s.ends, s.long, one, up)
-
-pub row_ends : (row : List ℕ) (n left : ℕ) (out₀ : List ℕ) (start : ℕ) (out : List ℕ) (at right : ℕ) → RowState row n left out₀ start out at right → n ≤ right → WritesRow row n left out₀ start out at
-row_ends row n left out₀ start out at right s l =
-    let same : right ≡ n = omega (arith, s.within) in
+pub row_ends : {row out₀ out : List ℕ} {n left start at : ℕ} {i t : MarkedNumbers} {r : Option ℕ} → RowState row n left out₀ start out at i → StepsOver i r t → r ≡ None → WritesRow row n left out₀ start out at
+row_ends {row} {out = out} {n = n} {left = left} {at = at} {i = i} s step e =
+    let none = on_walk_last s.on_walk step e in
     record {
       long = s.long;
-      ends = s.ends ∙ ap (λ (k : ℕ). start + 4 * count_below (bit row) k) same;
-      recorded = λ test head agree r. subst (λ (k : ℕ). Recorded n test (left * n + k) head out at) same (s.recorded test head agree r);
+      ends = omega (arith, s.ends, count_skip (bit row) i.from n s.on_walk.within none);
+      recorded = λ test head agree r. recorded_skip n test (left * n + i.from) (left * n + n) head out at (omega (arith, s.on_walk.within)) (shifted row n left test agree i.from n (omega arith) none) (s.recorded test head agree r);
     }

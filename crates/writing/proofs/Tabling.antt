@@ -25,7 +25,6 @@ next_row n left = add-mul left 1 n ∙ ap (λ (k : ℕ). left * n + k) (one-mul 
 
 pub record TableState (rows : List ℕ) (n w : ℕ) (out₀ : List ℕ) (start : ℕ) (out : List ℕ) (at left : ℕ) : Type 0 where
   pub long : length out ≡ length out₀
-  pub within : left ≤ n
   pub ends : at ≡ start + 4 * count_below (in_rows rows n w) (left * n)
   pub recorded : (test : ℕ → Bool) (head : List ℕ) → ((c d : ℕ) → c < n → d < n → test (c * n + d) ≡ bit rows (place w c d)) → Recorded n test 0 head out₀ start → Recorded n test (left * n) head out at
 
@@ -34,7 +33,6 @@ unfolding count_below
 table_begins rows n w out start =
     record {
       long = refl;
-      within = omega arith;
       ends = sym (ap (λ (k : ℕ). start + 4 * count_below (in_rows rows n w) k) (zero-mul n) ∙ add-zero start);
       recorded = λ test head agree r. subst (λ (k : ℕ). Recorded n test k head out start) (sym (zero-mul n)) r;
     }
@@ -77,7 +75,6 @@ module _ (rows : List ℕ) (n w : ℕ) (out₀ : List ℕ) (start : ℕ) (fits :
     table_goes_on out' at' f =
         record {
           long = f.long ∙ s.long;
-          within = omega arith;
           ends =
               let counted : count_below (in_rows rows n w) ((left + 1) * n) ≡ count_below (in_rows rows n w) (left * n) + count_below (bit (row left)) n =
               ap (count_below (in_rows rows n w)) (next_row n left) ∙ row_count left
@@ -88,10 +85,9 @@ module _ (rows : List ℕ) (n w : ℕ) (out₀ : List ℕ) (start : ℕ) (fits :
               (f.recorded test head (λ d h. agree left d l h ∙ sym (row_bit_lem left d h)) (s.recorded test head agree r));
         }
 
-  pub table_ends : (out : List ℕ) (at left : ℕ) → TableState rows n w out₀ start out at left → n ≤ left → WritesTable rows n w out₀ start out
+  pub table_ends : (out : List ℕ) (at left : ℕ) → TableState rows n w out₀ start out at left → left ≡ n → WritesTable rows n w out₀ start out
   unfolding rising
-  table_ends out at left s l =
-      let same : left ≡ n = omega (arith, s.within) in
+  table_ends out at left s same =
       record {
         long = s.long;
         recorded = λ test head agree r.

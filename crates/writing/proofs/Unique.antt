@@ -12,10 +12,11 @@ use Rattle.store.specs.Written.{axiom_count, written}
 use Rattle.layout.proofs.StoreRows.{in_force_range}
 use Rattle.store.proofs.Written.{written_accepted, written-axioms}
 use Rattle.writing.specs.Write.{ByOutcome, wrote, stays}
-use Rattle.writing.specs.declared.Wrote.{Wrote}
+use Rattle.std.proofs.Common.{Result}
+use Rattle.catalogue.specs.declared.checks.Refusal.{Refusal}
 
 -- An outcome leaves one answer, and one content of the output.
-pub by_outcome_unique : (b store output : List ℕ) (o : Outcome) (answer answer' : Wrote) (left left' : List ℕ) → ByOutcome b store output o answer left → ByOutcome b store output o answer' left' → (answer ≡ answer') × (left ≡ left')
+pub by_outcome_unique : (b store output : List ℕ) (o : Outcome) (answer answer' : Result ℕ Refusal) (left left' : List ℕ) → ByOutcome b store output o answer left → ByOutcome b store output o answer' left' → (answer ≡ answer') × (left ≡ left')
 by_outcome_unique b store output o answer answer' left left' (wrote e) (wrote f) = (refl, e ∙ sym f)
 by_outcome_unique b store output o answer answer' left left' stays stays = (refl, refl)
 

@@ -9,19 +9,13 @@ ghost use Rattle.writing.specs.Records.{RowFits, WritesRow, TableFits, WritesTab
 ghost use Rattle.writing.specs.Write.{Writes, WritesChecked};
 
 use catalogue::header::axioms_at;
-use catalogue::{Axiom, Verdict};
+use catalogue::{Axiom, Refusal};
 use layout::Shape;
 use reader::{copy_numbers, put_number};
-use rows::next_below;
-
-// What write answers: how many bytes it wrote, or the number and record of the refusal.
-#[derive(Clone, Copy)]
-pub enum Wrote {
-    Length(usize),
-    Refused(usize, usize),
-}
+use rows::marked;
 
 // Writes one axiom record.
+#[tactic(auto, unfolding(store::specs::Written::set_word))]
 fn put_axiom(out: &mut [u8], at: usize, left: usize, right: usize)
     requires { (at + 3 < length out.old) × (left < 65536) × (right < 65536) }
     ensures { out.new ≡ set_word (set_word out.old at left) (at + 2) right }
@@ -36,11 +30,9 @@ fn put_row(row: &[u8], n: usize, left: usize, out: &mut [u8], start: usize) -> u
     ensures { WritesRow row.now n left out.old start out.new result }
 {
     let mut at = start;
-    let mut right = next_below(row, n, 0);
-    while right < n {
+    for right in marked(row, n) {
         put_axiom(out, at, left, right);
         at += Axiom::SIZE;
-        right = next_below(row, n, right + 1);
     }
     at
 }
@@ -51,12 +43,10 @@ fn put_table(rows: &[u8], n: usize, w: usize, out: &mut [u8], start: usize)
     ensures { WritesTable rows.now n w out.old start out.new }
 {
     let mut at = start;
-    let mut left = 0;
-    while left < n {
+    for left in 0..n {
         let from = left * w;
         let to = from + w;
         at = put_row(&rows[from..to], n, left, out, at);
-        left += 1;
     }
 }
 
@@ -75,35 +65,35 @@ fn put_catalogue(b: &[u8], store: &[u8], count: usize, out: &mut [u8])
     put_table(store, n, w, out, start);
 }
 
-// The questions after 9, and the catalogue written.
-fn write_checked(b: &[u8], store: &[u8], output: &mut [u8]) -> Wrote
+// The questions after 9, and the catalogue written: how many bytes that are.
+#[tactic(auto, using(crate::proofs::Order::stops_10, crate::proofs::Order::stops_13, crate::proofs::Order::stops_14, crate::proofs::Order::stops_20, crate::proofs::Order::writes_all))]
+fn write_checked(b: &[u8], store: &[u8], output: &mut [u8]) -> Result<usize, Refusal>
     requires { WellFormed b.now }
     ensures { WritesChecked b.now store.now output.old result output.new }
 {
     if !store::store_fits(b, store.len()) {
-        return Wrote::Refused(10, 0);
+        return Err(Refusal { number: 10, at: 0 });
     }
     if !store::spare_clear(b, store) {
-        return Wrote::Refused(13, 0);
+        return Err(Refusal { number: 13, at: 0 });
     }
     let count = store::axiom_count(b, store);
     if Axiom::MAX < count {
-        return Wrote::Refused(14, 0);
+        return Err(Refusal { number: 14, at: 0 });
     }
     let end = axioms_at(b) + Axiom::SIZE * count;
     if output.len() < end {
-        return Wrote::Refused(20, 0);
+        return Err(Refusal { number: 20, at: 0 });
     }
     put_catalogue(b, store, count, &mut output[..end]);
-    Wrote::Length(end)
+    Ok(end)
 }
 
-// Writes the catalogue with the axioms in force, count and total to match; bytes beyond it stay.
-pub fn write(b: &[u8], store: &[u8], output: &mut [u8]) -> Wrote
+// Writes the catalogue with the axioms in force, count and total to match, and answers how many bytes it wrote; bytes beyond it stay.
+#[tactic(auto, using(catalogue::proofs::HandedOn::handed_on, crate::proofs::Order::catalogue_refused, crate::proofs::Order::catalogue_first))]
+pub fn write(b: &[u8], store: &[u8], output: &mut [u8]) -> Result<usize, Refusal>
     ensures { Writes b.now store.now output.old result output.new }
 {
-    match catalogue::check(b) {
-        Verdict::Refused(number, record) => Wrote::Refused(number, record),
-        Verdict::Accepted => write_checked(b, store, output),
-    }
+    catalogue::check(b)?;
+    write_checked(b, store, output)
 }

@@ -4,10 +4,10 @@ use Rattle.structure.proofs.Acceptance.{verdict_well_formed}
 use Rattle.gate_structure.proofs.report_reach.Goals as goal
 
 pub close_roles-square-requires : goal.close_roles-square-requires
-close_roles-square-requires g c = verdict_well_formed c.check.result c.check.ensures c.in-Accepted.is
+close_roles-square-requires g c = verdict_well_formed c.check.result c.check.ensures c.in-Ok.is
 
 pub roles-requires : goal.roles-requires
-roles-requires g c = header_within (verdict_well_formed c.check.result c.check.ensures c.in-Accepted.is)
+roles-requires g c = header_within (verdict_well_formed c.check.result c.check.ensures c.in-Ok.is)
 
 pub report_square-requires : goal.report_square-requires
-report_square-requires g c = rw c.roles.ensures (verdict_well_formed c.check.result c.check.ensures c.in-Accepted.is).roles_limit
+report_square-requires g c = rw c.roles.ensures (verdict_well_formed c.check.result c.check.ensures c.in-Ok.is).roles_limit

@@ -15,15 +15,11 @@ use Rattle.layout.specs.Parts.{Clear, in_force}
 use Rattle.layout.proofs.StoreRows.{in_force_range}
 use Rattle.layout.proofs.Sizes.{shape_sizes, shape_width}
 use Rattle.store.proofs.Checks.{every_two}
-use borrow.Author.Rules.{rules}
 use Rattle.read_checks.proofs.both_occur.Goals as goal
 
 -- An atomic record occurs.
 atomic_occurs : (b store : List ℕ) (c : ℕ) → Clear b store → c < concepts b → eqb (kind b c) 0 ≡ true → occurs b (in_force b store) c ≡ true
 atomic_occurs b store c h l k = (occurs_exact b (in_force b store) h.sized.well_formed (in_force_range b store h.spare) c).1 (atomic (l, eqb-true (kind b c) 0 k))
-
-pub both_atomic-requires : goal.both_atomic-requires
-both_atomic-requires c = let p = c.requires in (p.0.sized.well_formed, p.1, p.2)
 
 pub returns-then-both_atomic : goal.returns-then-both_atomic
 returns-then-both_atomic c =
@@ -46,6 +42,3 @@ pub both_marked-requires : goal.both_marked-requires
 both_marked-requires c =
     let e = c.of-s.ensures in
     (c.requires.0, length-take-le _ _ (shape_sizes c.requires.0.sized.well_formed e).width_limit ∙ shape_width c.args.b.now e)
-
-pub returns : goal.returns
-returns c = c.both_marked.ensures

@@ -1,21 +1,15 @@
 -- `reader::copy_numbers` meets its contract. The loop's invariant: the first k numbers are copied.
-use Prim.Native.Nat.{ℕ, suc, ◌+◌, ◌*◌, ◌<◌}
+use Prim.Native.Nat.{suc, ◌+◌, ◌*◌, ◌<◌}
 use native.Mathlib.Omega.{arith}
-use borrow.Author.Rules.{rules}
-use mathlib.Core.Path.{◌≡◌, refl, ap, ◌∙◌}
-use lib.ListN.{get_or, drop}
-use lib.Seq.{paste-zero}
-use Rattle.reader.specs.Copied.{copied}
+use mathlib.Core.Path.{◌≡◌, ◌∙◌}
+use lib.ListN.{get_or}
 use Rattle.reader.proofs.Copying.{word_fits, copied_more}
 use Rattle.reader.proofs.copy_numbers.Goals as goal
-
-pub loop-k-init : goal.loop-k-init
-loop-k-init c = (search rules, refl, paste-zero c.args.dst.now c.args.to (drop c.args.at c.args.src.now))
 
 pub put_number-requires : goal.put_number-requires
 put_number-requires c =
     let byte = c.type_inv.src in
-    (omega (arith, c.loop-k-test.true, c.loop-k.invariant.1, c.requires.1), rw c.number_after-n.ensures (word_fits _ _ (λ i. omega (arith, byte i))))
+    (omega (arith, c.requires.1), rw c.number_after-n.ensures (word_fits _ _ (λ i. omega (arith, byte i))))
 
 pub loop-k-preserved : goal.loop-k-preserved
 loop-k-preserved c =
@@ -25,17 +19,5 @@ loop-k-preserved c =
     let low : get_or c.args.src.now i 0 < 256 = omega (arith, c.type_inv.src i) in
     let n = c.number_after-n in
     let p = c.put_number in
-    let e : suc (suc (2 * l.k)) ≡ 2 * (l.k + 1) = omega arith in (
-      omega arith,
-      p.auto.dst ∙ l.invariant.1,
-      p.ensures ∙ rw (l.invariant.2, n.ensures, ← e) (copied_more c.args.src.now c.args.at c.args.dst.now c.args.to (2 * l.k) (omega (arith, t, c.requires.0)) (omega (arith, t, c.requires.1)) low),
-    )
-
-pub shape_of-dst : goal.shape_of-dst
-shape_of-dst c = c.loop-k.invariant.1
-
-pub returns : goal.returns
-returns c =
-    let l = c.loop-k in
-    let e : l.k ≡ c.args.count = omega (arith, l.invariant.0, c.loop-k-test.false) in
-    l.invariant.2 ∙ ap (λ (m : ℕ). copied c.args.src.now c.args.at c.args.dst.now c.args.to (2 * m)) e
+    let e : suc (suc (2 * l.k)) ≡ 2 * (l.k + 1) = omega arith in
+    p.ensures ∙ rw (l.invariant, n.ensures, ← e) (copied_more c.args.src.now c.args.at c.args.dst.now c.args.to (2 * l.k) (omega (arith, t, c.requires.0)) (omega (arith, t, c.requires.1)) low)

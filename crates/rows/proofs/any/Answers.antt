@@ -20,18 +20,18 @@ decided : (a b : Bool) → (a ≡ true → b ≡ true) → (a ≡ false → b �
 decided true b p q = sym (p refl)
 decided false b p q = sym (q refl)
 
-pub loop-i-init : goal.loop-i-init
-loop-i-init c = (search rules, λ e k l. absurd (let z : ⊥ = omega arith in z), λ e. absurd (true≢false (sym e)))
+pub loop-byte-init : goal.loop-byte-init
+loop-byte-init c = (search rules, λ e k l. absurd (let z : ⊥ = omega arith in z), λ e. absurd (true≢false (sym e)))
 
-pub loop-i-preserved : goal.loop-i-preserved
-loop-i-preserved c =
+pub loop-byte-preserved : goal.loop-byte-preserved
+loop-byte-preserved c =
     let row = c.args.row.now in
-    let l = c.loop-i in
-    let byte = get_or row l.i 0 in (
+    let l = c.loop-byte in
+    let byte = get_or row l.byte-index 0 in (
       search rules,
       λ e. below_more _ _ (l.invariant.1 (neither l.found (not (eqb byte 0)) e).0) (eqb-true byte 0 (not-false (eqb byte 0) (neither l.found (not (eqb byte 0)) e).1)),
-      λ e. one_of l.found (eqb byte 0) e l.invariant.2 (λ n. any_nonzero row l.i c.loop-i-test.true (c.type_inv.row l.i).fits (eqb-false byte 0 n)),
+      λ e. one_of l.found (eqb byte 0) e l.invariant.2 (λ n. any_nonzero row l.byte-index c.loop-byte-test.true (c.type_inv.row l.byte-index).fits (eqb-false byte 0 n)),
     )
 
 pub returns : goal.returns
-returns c = decided c.loop-i.found (any_bit c.args.row.now) c.loop-i.invariant.2 (λ e. any_zero c.args.row.now (λ k l. c.loop-i.invariant.1 e k (omega arith)))
+returns c = decided c.loop-byte.found (any_bit c.args.row.now) c.loop-byte.invariant.2 (λ e. any_zero c.args.row.now (λ k l. c.loop-byte.invariant.1 e k (omega arith)))

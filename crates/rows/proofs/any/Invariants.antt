@@ -6,8 +6,5 @@ use Prim.Native.Nat.{ℕ, ◌-◌, ◌≤◌, ◌<◌}
 use lib.ListN.{length, get_or}
 use Rattle.rows.proofs.any.Given as goal
 
-abbrev pub invariant-loop-i : goal.invariant-loop-i
-invariant-loop-i l = (l.i ≤ length l.row) × (l.found ≡ false → (k : ℕ) → k < l.i → get_or l.row k 0 ≡ 0) × (l.found ≡ true → any_bit l.row ≡ true)
-
-abbrev pub decreases-loop-i : goal.decreases-loop-i
-decreases-loop-i l = length l.row - l.i
+abbrev pub invariant-loop-byte : goal.invariant-loop-byte
+invariant-loop-byte l = (l.byte-index ≤ length l.row) × (l.found ≡ false → (k : ℕ) → k < l.byte-index → get_or l.row k 0 ≡ 0) × (l.found ≡ true → any_bit l.row ≡ true)

@@ -1,7 +1,7 @@
 -- `rows::count` meets its contract: the total is the count of the words passed, and what is left is counted byte by byte.
-use mathlib.Core.Path.{refl, sym, ap, ap₂, ◌∙◌}
+use mathlib.Core.Path.{◌≡◌, refl, sym, ap, ap₂, ◌∙◌}
 use borrow.Author.Rules.{rules}
-use Prim.Native.Nat.{ℕ, ◌+◌, ◌*◌}
+use Prim.Native.Nat.{ℕ, ◌+◌, ◌*◌, ◌/◌}
 use native.Mathlib.Omega.{arith}
 use lib.ListN.{length}
 use lib.Count.{ones, ones-le}
@@ -12,7 +12,7 @@ use Rattle.rows.proofs.count.Goals as goal
 
 pub loop-k-init : goal.loop-k-init
 unfolding count_below
-loop-k-init c = (search rules, refl)
+loop-k-init c = refl
 
 pub overflow_cast-total : goal.overflow_cast-total
 overflow_cast-total c = omega (arith, ones-le 64 c.word.result (omega arith))
@@ -21,23 +21,24 @@ pub overflow_add-total : goal.overflow_add-total
 overflow_add-total c =
     let row = c.args.row.now in
     let l = c.loop-k in
-    omega (arith, ones-le 64 c.word.result (omega arith), count_le (bit row) (8 * l.k), l.invariant.1, c.requires)
+    omega (arith, ones-le 64 c.word.result (omega arith), count_le (bit row) (8 * (8 * l.k)), l.invariant, c.requires)
 
 pub loop-k-preserved : goal.loop-k-preserved
 loop-k-preserved c =
     let row = c.args.row.now in
-    let l = c.loop-k in (
-      search rules,
-      ap₂ (λ (n x : ℕ). n + ones x) l.invariant.1 c.word.ensures
-          ∙ sym (count_number row l.k 8 (λ j h. (c.type_inv.row (l.k + j)).fits)),
-    )
+    let l = c.loop-k in
+    ap₂ (λ (n x : ℕ). n + ones x) l.invariant c.word.ensures
+    ∙ sym (count_number row (8 * l.k) 8 (λ j h. (c.type_inv.row (8 * l.k + j)).fits))
+    ∙ ap (λ (k : ℕ). count_below (bit row) (8 * k)) (let e : 8 * l.k + 8 ≡ 8 * (l.k + 1) = omega arith in e)
 
 pub overflow_add-result : goal.overflow_add-result
 unfolding count_bits
 overflow_add-result c =
     let row = c.args.row.now in
     let l = c.loop-k in
-    omega (arith, count_le (bit row) (8 * length row), count_le (bit row) (8 * l.k), l.invariant.1, c.count_by_bytes.ensures, c.requires)
+    omega (arith, count_le (bit row) (8 * length row), count_le (bit row) (8 * (8 * l.k)), l.invariant, c.count_by_bytes.ensures, c.requires)
 
 pub returns : goal.returns
-returns c = ap (λ (n : ℕ). n + c.count_by_bytes.result) c.loop-k.invariant.1 ∙ c.count_by_bytes.ensures
+returns c =
+    let ended : c.loop-k.k ≡ length c.args.row.now / 8 = omega arith in
+    ap (λ (n : ℕ). n + c.count_by_bytes.result) (c.loop-k.invariant ∙ ap (λ (k : ℕ). count_below (bit c.args.row.now) (8 * (8 * k))) ended) ∙ c.count_by_bytes.ensures

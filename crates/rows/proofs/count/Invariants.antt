@@ -6,7 +6,4 @@ use Rattle.rows.specs.Bits.{bit, count_below}
 use Rattle.rows.proofs.count.Given as goal
 
 abbrev pub invariant-loop-k : goal.invariant-loop-k
-invariant-loop-k l = (l.k ≤ length l.row) × (l.total ≡ count_below (bit l.row) (8 * l.k))
-
-abbrev pub decreases-loop-k : goal.decreases-loop-k
-decreases-loop-k l = length l.row - l.k
+invariant-loop-k l = l.total ≡ count_below (bit l.row) (8 * (8 * l.k))

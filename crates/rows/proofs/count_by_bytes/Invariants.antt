@@ -7,6 +7,3 @@ use Rattle.rows.proofs.count_by_bytes.Given as goal
 
 abbrev pub invariant-loop-k : goal.invariant-loop-k
 invariant-loop-k l = (l.k ≤ length l.row) × (count_below (bit l.row) (8 * l.from) + l.total ≡ count_below (bit l.row) (8 * l.k))
-
-abbrev pub decreases-loop-k : goal.decreases-loop-k
-decreases-loop-k l = length l.row - l.k

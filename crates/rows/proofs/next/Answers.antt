@@ -6,7 +6,7 @@ use native.Mathlib.Omega.{arith}
 use lib.Count.{count_trailing_zeros}
 use lib.Dec.{lit<}
 use Rattle.rows.specs.Next.{next_bit}
-use Rattle.rows.specs.declared.Found.TheVariants.{At}
+use Rattle.std.proofs.Common.{Some}
 use Rattle.rows.proofs.Lowest.{place_fits, zeros_fit, next_in_number, next_skip, number_clear}
 use Rattle.rows.proofs.next.Goals as goal
 
@@ -30,7 +30,7 @@ returns-then-rest-ne0 c =
     (l.invariant.1
     ∙ ap (next_bit row) (sym split)
     ∙ next_in_number row at 8 (l.i % 64) rest (λ j h. (c.type_inv.row (at + j)).fits) (omega arith) (ap (λ (n : ℕ). n / 2 ^ (l.i % 64)) c.word.ensures) c.if-rest-ne0.true
-    ∙ ap (λ (k : ℕ). At (k + count_trailing_zeros 64 rest)) split)
+    ∙ ap (λ (k : ℕ). Some (k + count_trailing_zeros 64 rest)) split)
 
 pub overflow_add-i-in-loop-i : goal.overflow_add-i-in-loop-i
 overflow_add-i-in-loop-i c = omega (arith, c.requires)

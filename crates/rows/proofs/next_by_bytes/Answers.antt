@@ -6,7 +6,7 @@ use lib.ListN.{get_or}
 use lib.Count.{count_trailing_zeros}
 use lib.Dec.{lit<}
 use Rattle.rows.specs.Next.{next_bit}
-use Rattle.rows.specs.declared.Found.TheVariants.{At}
+use Rattle.std.proofs.Common.{Some}
 use Rattle.rows.proofs.Bits.{bit_past}
 use Rattle.rows.proofs.Lowest.{place_fits, zeros_fit, next_in_byte, next_skip, next_none, rest_clear}
 use Rattle.rows.proofs.next_by_bytes.Goals as goal
@@ -30,7 +30,7 @@ returns-then-rest-ne0 c =
     (c.loop-i.invariant
     ∙ ap (next_bit row) (sym split)
     ∙ next_in_byte row (i / 8) (i % 8) rest (omega arith) (omega arith) refl (c.type_inv.row (i / 8)).fits c.if-rest-ne0.true
-    ∙ ap (λ (k : ℕ). At (k + count_trailing_zeros 8 rest)) split)
+    ∙ ap (λ (k : ℕ). Some (k + count_trailing_zeros 8 rest)) split)
 
 pub overflow_add-i : goal.overflow_add-i
 overflow_add-i c = omega (arith, c.requires)

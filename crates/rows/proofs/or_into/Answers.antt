@@ -16,9 +16,6 @@ loop-i-init c = (search rules, front_none (or_row c.args.row.now c.args.other.no
 pub bounds-other-i : goal.bounds-other-i
 bounds-other-i c = omega (arith, c.loop-i.invariant.1.long, c.requires)
 
-pub loop-i-smaller : goal.loop-i-smaller
-loop-i-smaller c = simp length-set (omega arith)
-
 pub loop-i-preserved : goal.loop-i-preserved
 unfolding or_row
 loop-i-preserved c =

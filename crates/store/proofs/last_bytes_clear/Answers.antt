@@ -2,27 +2,12 @@
 use Prim.Native.Nat.{◌+◌, ◌*◌, ◌/◌}
 use native.Mathlib.Omega.{arith}
 use mathlib.Core.Path.{sym, ap}
-use mathlib.Core.Bool.{false, not}
-use borrow.Author.Rules.{rules}
-use borrow.Author.Count.{below_none, below_more}
+use mathlib.Core.Bool.{not}
+use borrow.Author.Count.{below_more}
 use Rattle.rows.proofs.Counting.{some_at, some_none}
-use Rattle.rows.proofs.Places.{row_within}
 use Rattle.layout.specs.Parts.{set_from}
 use Rattle.store.proofs.LastBytes.{last_clear, last_set}
 use Rattle.store.proofs.last_bytes_clear.Goals as goal
-
-pub loop-r-init : goal.loop-r-init
-loop-r-init c = (search rules, below_none _)
-
-pub overflow_mul-r : goal.overflow_mul-r
-overflow_mul-r c = omega (arith, row_within c.args.w c.loop-r.r c.args.count c.loop-r-test.true)
-
-pub overflow_add-r : goal.overflow_add-r
-overflow_add-r c = omega (arith, row_within c.args.w c.loop-r.r c.args.count c.loop-r-test.true)
-
-pub bounds-rows-r : goal.bounds-rows-r
-bounds-rows-r c =
-    omega (arith, row_within c.args.w c.loop-r.r c.args.count c.loop-r-test.true)
 
 pub returns-then-rows-r-ne0 : goal.returns-then-rows-r-ne0
 returns-then-rows-r-ne0 c =
@@ -35,9 +20,9 @@ pub loop-r-preserved : goal.loop-r-preserved
 loop-r-preserved c =
     let a = c.args in
     let r = c.loop-r.r in
-    (search rules, below_more _ _ c.loop-r.invariant.1 (last_clear a.w r a.i a.rows.now c.requires.below c.requires.last c.if-rows-r-ne0.false))
+    below_more _ _ c.loop-r.invariant (last_clear a.w r a.i a.rows.now c.requires.below c.requires.last c.if-rows-r-ne0.false)
 
 pub returns : goal.returns
 returns c =
     let a = c.args in
-    sym (ap not (some_none (set_from a.w a.i a.rows.now) a.count (λ k l. c.loop-r.invariant.1 k (omega arith))))
+    sym (ap not (some_none (set_from a.w a.i a.rows.now) a.count (λ k l. c.loop-r.invariant k (omega arith))))

@@ -1,6 +1,5 @@
 -- `asking::check_axioms` puts 18, 16 and 17; each list is asked about alone, beside an empty one.
 use Prim.Native.Nat.{ℕ, ◌+◌}
-use native.Mathlib.Omega.{arith}
 use mathlib.Core.Path.{sym, ap, ◌∙◌}
 use mathlib.Core.Bool.{not}
 use lib.Dec.{leb}
@@ -8,15 +7,8 @@ use borrow.Author.Tests.{le-leb, lt-leb}
 use Rattle.layout.specs.Parts.{in_force}
 use Rattle.change_contract.specs.Lists.{axioms_in}
 use Rattle.change_contract.proofs.Asking.{axioms_pass, refused_absent, refused_in_force, refused_full}
-use Rattle.change_checks.proofs.Asked.{empty_whole, absent_asked, present_asked, room_asked}
-use borrow.Author.Rules.{rules}
+use Rattle.change_checks.proofs.Asked.{absent_asked, present_asked, room_asked}
 use Rattle.change_checks.proofs.asking.check_axioms.Goals as goal
-
-pub any_fault-absent-requires : goal.any_fault-absent-requires
-any_fault-absent-requires c = let p = c.requires in (p.0, search (p.1, p.2), empty_whole)
-
-pub any_fault-present-requires : goal.any_fault-present-requires
-any_fault-present-requires c = let p = c.requires in (p.0, search (p.1, p.2), empty_whole)
 
 pub returns-then-absent : goal.returns-then-absent
 returns-then-absent c =
@@ -24,7 +16,7 @@ returns-then-absent c =
     let F = in_force b c.args.store.now in
     let withdrawn = c.args.withdrawn.now in
     let added = c.args.added.now in
-    sym (refused_absent b withdrawn added F (absent_asked b F withdrawn ∙ ap not (sym c.any_fault-absent.ensures ∙ c.if-absent.true)))
+    sym (refused_absent b withdrawn added F (absent_asked b F withdrawn ∙ ap not (sym c.any_absent-absent.ensures ∙ c.if-absent.true)))
 
 pub returns-then-present : goal.returns-then-present
 returns-then-present c =
@@ -33,14 +25,8 @@ returns-then-present c =
     let withdrawn = c.args.withdrawn.now in
     let added = c.args.added.now in
     sym
-    (refused_in_force b withdrawn added F (absent_asked b F withdrawn ∙ ap not (sym c.any_fault-absent.ensures ∙ c.if-absent.false))
-    (present_asked b F added ∙ ap not (sym c.any_fault-present.ensures ∙ c.if-present.true)))
-
-pub overflow_add-count : goal.overflow_add-count
-overflow_add-count c = let p = c.requires in omega (arith, p.3, p.2.few)
-
-pub overflow_add-fewer : goal.overflow_add-fewer
-overflow_add-fewer c = let p = c.requires in omega (arith, p.1.few)
+    (refused_in_force b withdrawn added F (absent_asked b F withdrawn ∙ ap not (sym c.any_absent-absent.ensures ∙ c.if-absent.false))
+    (present_asked b F added ∙ ap not (sym c.any_present-present.ensures ∙ c.if-present.true)))
 
 pub returns-then-not-count-more : goal.returns-then-not-count-more
 unfolding axioms_in
@@ -49,8 +35,8 @@ returns-then-not-count-more c =
     let F = in_force b c.args.store.now in
     let withdrawn = c.args.withdrawn.now in
     let added = c.args.added.now in
-    let there = absent_asked b F withdrawn ∙ ap not (sym c.any_fault-absent.ensures ∙ c.if-absent.false) in
-    let out = present_asked b F added ∙ ap not (sym c.any_fault-present.ensures ∙ c.if-present.false) in
+    let there = absent_asked b F withdrawn ∙ ap not (sym c.any_absent-absent.ensures ∙ c.if-absent.false) in
+    let out = present_asked b F added ∙ ap not (sym c.any_present-present.ensures ∙ c.if-present.false) in
     sym
     (refused_full b withdrawn added F there out
     (room_asked b F withdrawn added c.requires.1.whole c.requires.5 c.requires.6 there out
@@ -63,8 +49,8 @@ returns c =
     let F = in_force b c.args.store.now in
     let withdrawn = c.args.withdrawn.now in
     let added = c.args.added.now in
-    let there = absent_asked b F withdrawn ∙ ap not (sym c.any_fault-absent.ensures ∙ c.if-absent.false) in
-    let out = present_asked b F added ∙ ap not (sym c.any_fault-present.ensures ∙ c.if-present.false) in
+    let there = absent_asked b F withdrawn ∙ ap not (sym c.any_absent-absent.ensures ∙ c.if-absent.false) in
+    let out = present_asked b F added ∙ ap not (sym c.any_present-present.ensures ∙ c.if-present.false) in
     sym
     (axioms_pass b withdrawn added F there out
     (room_asked b F withdrawn added c.requires.1.whole c.requires.5 c.requires.6 there out

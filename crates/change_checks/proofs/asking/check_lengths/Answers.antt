@@ -5,19 +5,11 @@ use Rattle.catalogue.specs.Outcome.{accepted}
 use Rattle.catalogue.proofs.Outcomes.{ask_yes, ask_no}
 use Rattle.store.specs.Checks.{ask_store, ask_work, ask_list}
 use Rattle.change_contract.specs.Questions.{length_checks, ask_whole}
-use borrow.Author.Rules.{rules}
-use borrow.Author.Tests.{not-true, not-false}
 use Rattle.change_checks.proofs.asking.check_lengths.Goals as goal
-
-pub store_fits-requires : goal.store_fits-requires
-store_fits-requires c = c.requires
 
 pub returns-then-not-store_fits : goal.returns-then-not-store_fits
 unfolding length_checks ask_store
 returns-then-not-store_fits c = sym (ask_no 10 0 _ (sym c.store_fits.ensures ∙ c.if-not-store_fits.true))
-
-pub work_fits-requires : goal.work_fits-requires
-work_fits-requires c = c.requires
 
 pub returns-then-not-work_fits : goal.returns-then-not-work_fits
 unfolding length_checks ask_store ask_work
@@ -25,9 +17,6 @@ returns-then-not-work_fits c =
     sym
     (ask_yes 10 0 _ (sym c.store_fits.ensures ∙ c.if-not-store_fits.false)
     ∙ ask_no 11 0 _ (sym c.work_fits.ensures ∙ c.if-not-work_fits.true))
-
-pub list_fits-requires : goal.list_fits-requires
-list_fits-requires c = c.requires
 
 pub returns-then-not-list_fits : goal.returns-then-not-list_fits
 unfolding length_checks ask_store ask_work ask_list

@@ -13,7 +13,6 @@ use Rattle.layout.specs.Layout.{table}
 use Rattle.layout.specs.Parts.{in_force, axiom_rows}
 use Rattle.layout.proofs.Sizes.{sizes}
 use Rattle.layout.proofs.StoreRows.{in_force_bit}
-use borrow.Author.Rules.{rules}
 use Rattle.change_checks.proofs.faults.in_force.Goals as goal
 
 -- A table has no axiom outside.

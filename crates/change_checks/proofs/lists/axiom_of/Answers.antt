@@ -5,7 +5,6 @@ use mathlib.Core.Path.{◌≡◌, sym, ap, ◌∙◌}
 use mathlib.Core.List.{◌++◌}
 use Rattle.change_contract.specs.Lists.{axioms_in, left_in, right_in}
 use Rattle.change_contract.proofs.Lists.{axioms_together, left-first, right-first, left-second, right-second}
-use borrow.Author.Rules.{rules}
 use Rattle.change_checks.proofs.lists.axiom_of.Goals as goal
 
 pub returns-then-k-count : goal.returns-then-k-count

@@ -2,7 +2,6 @@
 use mathlib.Core.Path.{sym}
 use Rattle.change_contract.specs.Lists.{axioms_in}
 use Rattle.change_contract.proofs.Lists.{axioms_together}
-use borrow.Author.Rules.{rules}
 use Rattle.change_checks.proofs.lists.count.Goals as goal
 
 pub returns : goal.returns

@@ -17,9 +17,9 @@ use Rattle.classification.specs.Closing.{Closes}
 use Rattle.classification.proofs.Filled.{shaped, part_sizes, store_filled}
 use Rattle.classification.proofs.calls.fill.Goals as goal
 
-pub overflow_mul-pairs : goal.overflow_mul-pairs
+pub overflow_mul-pairs_at : goal.overflow_mul-pairs_at
 unfolding table_length
-overflow_mul-pairs c =
+overflow_mul-pairs_at c =
     let shape = c.of-s in
     let b = c.args.b.now in
     let store = c.args.store.now in
@@ -28,9 +28,9 @@ overflow_mul-pairs c =
     let parts = part_sizes b store shape.result shape.ensures c.requires.well_formed c.requires.store_long in
     omega (arith, limits.table_limit)
 
-pub overflow_add-links : goal.overflow_add-links
+pub overflow_add-links_at : goal.overflow_add-links_at
 unfolding table_length
-overflow_add-links c =
+overflow_add-links_at c =
     let shape = c.of-s in
     let b = c.args.b.now in
     let store = c.args.store.now in
@@ -48,7 +48,7 @@ slice_bounds-axioms-end c =
     let t = table_length shape.result in
     let limits = shape-limits (shaped c.requires shape.ensures) in
     let parts = part_sizes b store shape.result shape.ensures c.requires.well_formed c.requires.store_long in
-    let zeros = c.table-axioms in
+    let zeros = c.zeros-axioms in
     omega (arith, zeros.ensures.long, limits.table_limit)
 
 pub slice_bounds-put_axioms-end : goal.slice_bounds-put_axioms-end
@@ -60,7 +60,7 @@ slice_bounds-put_axioms-end c =
     let t = table_length shape.result in
     let limits = shape-limits (shaped c.requires shape.ensures) in
     let parts = part_sizes b store shape.result shape.ensures c.requires.well_formed c.requires.store_long in
-    let zeros = c.table-axioms in
+    let zeros = c.zeros-axioms in
     prefix_long t 32768 zeros.result zeros.ensures.long limits.table_limit
 
 pub put_axioms-requires : goal.put_axioms-requires
@@ -72,7 +72,7 @@ put_axioms-requires c =
     let t = table_length shape.result in
     let limits = shape-limits (shaped c.requires shape.ensures) in
     let parts = part_sizes b store shape.result shape.ensures c.requires.well_formed c.requires.store_long in
-    let zeros = c.table-axioms in
+    let zeros = c.zeros-axioms in
     (shaped c.requires shape.ensures, omega (arith, parts.whole), sym (prefix_long t 32768 zeros.result zeros.ensures.long limits.table_limit))
 
 pub slice_bounds-axioms-end-2 : goal.slice_bounds-axioms-end-2
@@ -84,7 +84,7 @@ slice_bounds-axioms-end-2 c =
     let t = table_length shape.result in
     let limits = shape-limits (shaped c.requires shape.ensures) in
     let parts = part_sizes b store shape.result shape.ensures c.requires.well_formed c.requires.store_long in
-    let zeros = c.table-axioms in
+    let zeros = c.zeros-axioms in
     let put = c.put_axioms in
     omega (arith, put.ensures.rows_long, length-append put.new.table (drop t zeros.result))
 
@@ -97,7 +97,7 @@ slice_bounds-close-end c =
     let t = table_length shape.result in
     let limits = shape-limits (shaped c.requires shape.ensures) in
     let parts = part_sizes b store shape.result shape.ensures c.requires.well_formed c.requires.store_long in
-    let zeros = c.table-axioms in
+    let zeros = c.zeros-axioms in
     let put = c.put_axioms in
     let same : take t (put.new.table ++ drop t zeros.result) ≡ put.new.table = front_of t 32768 put.new.table zeros.result put.auto.table zeros.ensures.long limits.table_limit in
     sym (ap length same ∙ put.ensures.rows_long)
@@ -133,7 +133,7 @@ close-requires c =
     let t = table_length shape.result in
     let limits = shape-limits (shaped c.requires shape.ensures) in
     let parts = part_sizes b store shape.result shape.ensures c.requires.well_formed c.requires.store_long in
-    let zeros = c.table-axioms in
+    let zeros = c.zeros-axioms in
     let put = c.put_axioms in
     let same : take t (put.new.table ++ drop t zeros.result) ≡ put.new.table = front_of t 32768 put.new.table zeros.result put.auto.table zeros.ensures.long limits.table_limit in
     let middle : length (mid_of t (length store - t) put.new.store) ≡ block_length shape.result =
@@ -156,22 +156,22 @@ slice_bounds-count-end c =
     let t = table_length shape.result in
     let limits = shape-limits (shaped c.requires shape.ensures) in
     let parts = part_sizes b store shape.result shape.ensures c.requires.well_formed c.requires.store_long in
-    let zeros = c.table-axioms in
+    let zeros = c.zeros-axioms in
     let put = c.put_axioms in
     let closed = c.close in
     let long : length (put_mid t (length store - t) put.new.store closed.new.set) ≡ length store = same_len_mid t (length store - t) put.new.store closed.new.set closed.auto.set ∙ put.auto.store in
     omega (arith, parts.whole, parts.half)
 
-pub count-pair_count-requires : goal.count-pair_count-requires
+pub count-pairs-requires : goal.count-pairs-requires
 unfolding table_length
-count-pair_count-requires c =
+count-pairs-requires c =
     let shape = c.of-s in
     let b = c.args.b.now in
     let store = c.args.store.now in
     let t = table_length shape.result in
     let limits = shape-limits (shaped c.requires shape.ensures) in
     let parts = part_sizes b store shape.result shape.ensures c.requires.well_formed c.requires.store_long in
-    let zeros = c.table-axioms in
+    let zeros = c.zeros-axioms in
     let put = c.put_axioms in
     let closed = c.close in
     omega (arith, parts.table_limit, length-take ((t + t) - t) (drop t (put_mid t (length store - t) put.new.store closed.new.set)))
@@ -198,16 +198,16 @@ slice_bounds-count-start-2 c =
     let parts = part_sizes b store shape.result shape.ensures c.requires.well_formed c.requires.store_long in
     omega (arith, parts.whole, parts.half)
 
-pub count-link_count-requires : goal.count-link_count-requires
+pub count-links-requires : goal.count-links-requires
 unfolding table_length
-count-link_count-requires c =
+count-links-requires c =
     let shape = c.of-s in
     let b = c.args.b.now in
     let store = c.args.store.now in
     let t = table_length shape.result in
     let limits = shape-limits (shaped c.requires shape.ensures) in
     let parts = part_sizes b store shape.result shape.ensures c.requires.well_formed c.requires.store_long in
-    let zeros = c.table-axioms in
+    let zeros = c.zeros-axioms in
     let put = c.put_axioms in
     let closed = c.close in
     omega (arith, parts.limit, length-take (length store - (t + t)) (drop (t + t) (put_mid t (length store - t) put.new.store closed.new.set)))
@@ -221,7 +221,7 @@ shape_of-store c =
     let t = table_length shape.result in
     let limits = shape-limits (shaped c.requires shape.ensures) in
     let parts = part_sizes b store shape.result shape.ensures c.requires.well_formed c.requires.store_long in
-    let zeros = c.table-axioms in
+    let zeros = c.zeros-axioms in
     let put = c.put_axioms in
     let closed = c.close in
     same_len_mid t (length store - t) put.new.store closed.new.set closed.auto.set ∙ put.auto.store
@@ -239,7 +239,7 @@ returns c =
     let t = table_length shape.result in
     let limits = shape-limits (shaped c.requires shape.ensures) in
     let parts = part_sizes b store shape.result shape.ensures c.requires.well_formed c.requires.store_long in
-    let zeros = c.table-axioms in
+    let zeros = c.zeros-axioms in
     let put = c.put_axioms in
     let closed = c.close in
     let same : take t (put.new.table ++ drop t zeros.result) ≡ put.new.table = front_of t 32768 put.new.table zeros.result put.auto.table zeros.ensures.long limits.table_limit in
@@ -264,9 +264,8 @@ returns c =
     })
     in
     record {
-      answers = refl;
-      pairs_counted = subst (Size b (Pairs (Closure b (catalogue_axioms b)))) (sym c.count-pair_count.ensures) filled.pairs;
-      links_counted = subst (Size b (Links (Closure b (catalogue_axioms b)))) (sym c.count-link_count.ensures) filled.links;
+      pairs_counted = subst (Size b (Pairs (Closure b (catalogue_axioms b)))) (sym c.count-pairs.ensures) filled.pairs;
+      links_counted = subst (Size b (Links (Closure b (catalogue_axioms b)))) (sym c.count-links.ensures) filled.links;
       fresh = filled.fresh;
       work_zero = filled.work_zero;
     }

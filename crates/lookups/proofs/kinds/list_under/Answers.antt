@@ -1,10 +1,8 @@
 -- `list_under` meets its contract. The invariant: of the concepts below c those that pass stand in front, and the rest of the list is as it was.
 use Rattle.catalogue.specs.Header.{concepts}
-use Prim.Native.Nat.{ℕ, ◌-◌, ◌≤◌}
+use Prim.Native.Nat.{ℕ}
 use native.Mathlib.Omega.{arith}
 use mathlib.Core.Path.{◌≡◌, refl, subst, ◌∙◌}
-use lib.ListN.{length}
-use borrow.Author.Rules.{rules}
 use Rattle.store.specs.Written.{rising}
 use Rattle.number_lists.specs.Lists.{Filled}
 use Rattle.number_lists.proofs.Filling.{filled_none, filled_most, filled_step}
@@ -28,12 +26,6 @@ enter-count-requires c =
     let n = c.concepts-n.ensures in
     let test = c.loop-c-test.true in
     (omega (arith, filled_most _ _ filled), omega (arith, sized.well_formed.concepts_limit))
-
-pub overflow_add-c : goal.overflow_add-c
-overflow_add-c c = omega (arith, c.loop-c-test.true, c.concepts-n.ensures, c.requires.0.well_formed.concepts_limit)
-
-pub loop-c-smaller : goal.loop-c-smaller
-loop-c-smaller c = omega (arith, c.loop-c-test.true)
 
 pub loop-c-preserved : goal.loop-c-preserved
 loop-c-preserved c =

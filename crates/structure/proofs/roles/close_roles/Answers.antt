@@ -1,7 +1,6 @@
 -- `roles::close_roles` meets its contract. The loop's invariant: the square marks reach with only roles below k between.
 use Prim.Native.Nat.{ℕ}
 use native.Mathlib.Omega.{arith}
-use borrow.Author.Rules.{rules}
 use mathlib.Core.Path.{◌≡◌, subst}
 use Rattle.catalogue.specs.Header.{inclusions}
 use Rattle.structure.specs.Square.{Included, MarksExactly}
@@ -12,15 +11,15 @@ use Rattle.structure.proofs.roles.close_roles.Goals as goal
 pub loop-k-init : goal.loop-k-init
 loop-k-init c =
     let b = c.args.b.now in
-    (search rules, exactly_same (Included b (inclusions b)) (Via b 0) c.included-square.result (λ r s _ _. via_none) c.included-square.ensures)
+    exactly_same (Included b (inclusions b)) (Via b 0) c.included-square.result (λ r s _ _. via_none) c.included-square.ensures
 
 pub loop-k-preserved : goal.loop-k-preserved
 loop-k-preserved c =
     let l = c.loop-k in
-    (search rules, through_exact c.args.b.now l.k l.square c.through-next.result (omega (arith, c.loop-k-test.true)) l.invariant.1 c.through-next.ensures)
+    through_exact c.args.b.now l.k l.square c.through-next.result (omega arith) l.invariant c.through-next.ensures
 
 pub returns : goal.returns
 returns c =
     let l = c.loop-k in
-    let e : l.k ≡ 16 = omega (arith, l.invariant.0, c.loop-k-test.false) in
-    via_closed c.requires (subst (λ (n : ℕ). MarksExactly (Via c.args.b.now n) l.square) e l.invariant.1)
+    let e : l.k ≡ 16 = omega arith in
+    via_closed c.requires (subst (λ (n : ℕ). MarksExactly (Via c.args.b.now n) l.square) e l.invariant)

@@ -10,38 +10,26 @@ use Rattle.text.proofs.Listing.{rows_below_most, rows_none, rows_step}
 use Rattle.text.proofs.lines.put_rows.Goals as goal
 
 pub loop-c-init : goal.loop-c-init
-loop-c-init c = (omega arith, refl, rows_none _ _ _ _ (omega arith))
+loop-c-init c = rows_none _ _ _ _ (omega arith)
 
 pub put_row-place-requires : goal.put_row-place-requires
 put_row-place-requires c =
     let (sized, room) = c.requires in
-    let (most, long, lines) = c.loop-c.invariant in
     let n = c.concepts-n.ensures in
     let test = c.loop-c-test.true in
     let limit = sized.well_formed.concepts_limit in
     let b = c.args.b.now in
     let short = rows_below_most b (held b c.args.store.now) c.loop-c.c limit (omega (arith, n, test)) in
-    (sized, omega (arith, n, test), omega (arith, n, test, limit, lines.ends, short, long, room))
-
-pub overflow_add-c : goal.overflow_add-c
-overflow_add-c c =
-    omega (arith, c.loop-c-test.true, c.concepts-n.ensures, c.requires.0.well_formed.concepts_limit)
-
-pub loop-c-smaller : goal.loop-c-smaller
-loop-c-smaller c = omega (arith, c.loop-c-test.true)
+    (sized, omega (arith, n, test), omega (arith, n, test, limit, c.loop-c.invariant.ends, short, room))
 
 pub loop-c-preserved : goal.loop-c-preserved
 loop-c-preserved c =
-    let (most, long, lines) = c.loop-c.invariant in
-    (omega (arith, c.loop-c-test.true), c.put_row-place.auto.out ∙ long, rows_step _ _ _ _ (omega (arith, c.requires.1)) _ _ _ _ _ lines c.put_row-place.ensures)
-
-pub shape_of-out : goal.shape_of-out
-shape_of-out c = c.loop-c.invariant.1
+    rows_step _ _ _ _ (omega (arith, c.requires.1)) _ _ _ _ _ c.loop-c.invariant c.put_row-place.ensures
 
 pub returns : goal.returns
 unfolding pair_lines
 returns c =
     let a = c.args in
     let l = c.loop-c in
-    let all : l.c ≡ concepts a.b.now = omega (arith, c.loop-c-test.false, l.invariant.0, c.concepts-n.ensures) in
-    subst (λ (k : ℕ). Appended (rows_below a.b.now (held a.b.now a.store.now) k) a.out.now a.at l.place l.out) all l.invariant.2
+    let all : l.c ≡ concepts a.b.now = omega (arith, c.concepts-n.ensures) in
+    subst (λ (k : ℕ). Appended (rows_below a.b.now (held a.b.now a.store.now) k) a.out.now a.at l.place l.out) all l.invariant

@@ -1,15 +1,8 @@
 -- `put_rows` meets its contract. The invariant: the lines of the pairs of the concepts below c are written.
-use Prim.Native.Nat.{◌-◌, ◌≤◌}
-use mathlib.Core.Path.{◌≡◌}
-use lib.ListN.{length}
 use Rattle.layout.specs.Parts.{held}
 use Rattle.text.specs.Text.{Appended}
 use Rattle.text.specs.Lines.{rows_below}
 use Rattle.text.proofs.lines.put_rows.Given as goal
 
 abbrev pub invariant-loop-c : goal.invariant-loop-c
-invariant-loop-c l =
-    (l.c ≤ l.n) × (length l.out ≡ length l.initial.out) × Appended (rows_below l.b (held l.b l.store) l.c) l.initial.out l.at l.place l.out
-
-abbrev pub decreases-loop-c : goal.decreases-loop-c
-decreases-loop-c l = l.n - l.c
+invariant-loop-c l = Appended (rows_below l.b (held l.b l.store) l.c) l.initial.out l.at l.place l.out

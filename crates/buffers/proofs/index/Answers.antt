@@ -1,6 +1,0 @@
--- `buffers::index` meets its contract: it is all zeros.
-use Rattle.buffers.proofs.Zeros.{zeros}
-use Rattle.buffers.proofs.index.Goals as goal
-
-pub returns : goal.returns
-returns c = zeros 67776
