@@ -4,7 +4,7 @@
 use catalogue::Refusal;
 use change_contract::Changed;
 use std::io;
-use test_cases::{least, say, say_refused, say_reply};
+use test_cases::{say, say_refused, say_reply};
 
 // Classifies a catalogue, and writes the answer.
 fn run_classify(rt: &impl Print, b: &[u8], store: &mut [u8], work: &mut [u8]) -> io::Result<()> {
@@ -42,7 +42,7 @@ fn run_exported(
     entries: usize,
 ) -> io::Result<()> {
     let mut answer = [99u64; 6];
-    let n = least(entries, 6);
+    let n = entries.min(6);
     let returned = exports::girvotal_change(
         b,
         withdrawn,

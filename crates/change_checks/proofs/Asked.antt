@@ -10,12 +10,14 @@ use borrow.Author.Tests.{le-leb, leb-true}
 use Rattle.booleans.proofs.Booleans.{agree}
 use Rattle.rows.specs.Bits.{some_below}
 use Rattle.catalogue.specs.Header.{concepts}
+use Rattle.catalogue.specs.Outcome.{Outcome, accepted, refused, followed}
 use Rattle.rules.specs.Axioms.{Axioms}
 use Rattle.store.specs.Written.{axiom_count}
 use Rattle.store.specs.Checks.{axioms_in_limit, numbers_below}
 use Rattle.change_contract.specs.Lists.{axioms_in, sides_in, edited}
-use Rattle.change_contract.specs.Questions.{is_whole, none_twice, all_in_force, none_in_force, repeats}
+use Rattle.change_contract.specs.Questions.{is_whole, none_twice, all_in_force, none_in_force, repeats, Lengths, length_checks}
 use Rattle.change_contract.proofs.Lists.{whole_long, sides_some, edited_count}
+use Rattle.change_contract.proofs.Asking.{lengths_followed}
 use Rattle.change_checks.specs.Reading.{Whole, is_beyond, is_absent, is_present}
 
 pub is_whole_lem : (list : List ℕ) → is_whole (length list) ≡ true → Whole list
@@ -46,6 +48,17 @@ module _ (b : List ℕ) (F : Axioms) (list : List ℕ) where
   pub present_asked : none_in_force F list ≡ not (some_axiom (is_present F) (list ++ []))
   unfolding none_in_force is_present
   present_asked = ap (λ (l : List ℕ). none_in_force F l) (sym (append-nil list))
+
+-- ---- 10 to 12 and 22, and then the rest
+
+module _ (b : List ℕ) (withdrawn added : ℕ) (lent : Lengths) (rest : Outcome) where
+  pub lengths_accepted : length_checks b withdrawn added lent accepted ≡ accepted → length_checks b withdrawn added lent rest ≡ rest
+  unfolding followed
+  lengths_accepted e = sym (lengths_followed b withdrawn added lent rest) ∙ ap (λ (o : Outcome). followed o rest) e
+
+  pub lengths_refused : {number at : ℕ} → length_checks b withdrawn added lent accepted ≡ refused number at → length_checks b withdrawn added lent rest ≡ refused number at
+  unfolding followed
+  lengths_refused e = sym (lengths_followed b withdrawn added lent rest) ∙ ap (λ (o : Outcome). followed o rest) e
 
 -- ---- 17
 

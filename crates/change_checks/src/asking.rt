@@ -20,6 +20,7 @@ use store::{axiom_count, list_fits, spare_clear, store_fits, work_fits};
 const MOST: usize = 64 * Axiom::SIZE;
 
 // Is a list of this length of whole axioms, and of 64 at most?
+#[tactic(auto, unfolding(change_contract::specs::Questions::is_whole))]
 fn is_whole(long: usize) -> bool
     ensures { result ≡ is_whole long }
 {
@@ -27,6 +28,7 @@ fn is_whole(long: usize) -> bool
 }
 
 // 10 to 12 and 22, of a store, a work space, a list and two lists of axioms of these lengths.
+#[tactic(auto, unfolding(change_contract::specs::Questions::length_checks, change_contract::specs::Questions::ask_whole, store::specs::Checks::ask_store, store::specs::Checks::ask_work, store::specs::Checks::ask_list, catalogue::specs::Outcome::ask))]
 fn check_lengths(
     b: &[u8],
     store: usize,
@@ -106,6 +108,7 @@ fn check_content(b: &[u8], withdrawn: &[u8], added: &[u8], store: &[u8]) -> Resu
 }
 
 // 10 and on, of a catalogue that 1 to 9 accept.
+#[tactic(auto, using(catalogue::proofs::HandedOn::handed_on, crate::proofs::Asked::lengths_refused, crate::proofs::Asked::lengths_accepted))]
 fn check_checked(
     b: &[u8],
     withdrawn: &[u8],
@@ -122,6 +125,7 @@ fn check_checked(
 }
 
 // All of them, with a work space and a list of these lengths.
+#[tactic(auto, using(catalogue::proofs::HandedOn::handed_on, catalogue::proofs::Passed::after_accepted, catalogue::proofs::Passed::after_refused), unfolding(change_contract::specs::Questions::change_checks))]
 pub fn check_all(
     b: &[u8],
     withdrawn: &[u8],

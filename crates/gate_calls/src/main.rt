@@ -8,9 +8,7 @@
 ghost use Rattle.std.specs.Prelude.{◌+◌, ◌≤◌, ◌<◌, length, IfOk};
 
 use std::io;
-use test_cases::{
-    end_at, fill, least, read_full, say, say_checksum, say_refused, say_reply, short_at,
-};
+use test_cases::{end_at, fill, read_full, say, say_checksum, say_refused, say_reply, short_at};
 
 // Writes the catalogue with the axioms in force.
 fn run_write(rt: &impl Print, b: &[u8], store: &[u8], output: &mut [u8]) -> io::Result<()> {
@@ -68,7 +66,7 @@ fn run_exported(
     entries: usize,
 ) -> io::Result<()> {
     let mut answer = [99u64; 6];
-    let n = least(entries, 6);
+    let n = entries.min(6);
     let returned = reply(call, b, c, d, read, store, other, &mut answer[..n]);
     say_reply(rt, returned, &answer)
 }
@@ -108,8 +106,8 @@ fn run_case(
     let c = short_at(text, at + 2);
     let d = short_at(text, at + 4);
     let entries = short_at(text, at + 6);
-    let s = least(short_at(text, at + 8), store.len());
-    let o = least(short_at(text, at + 10), other.len());
+    let s = short_at(text, at + 8).min(store.len());
+    let o = short_at(text, at + 10).min(other.len());
     let start = at + 16;
     let middle = end_at(text, at + 12, start);
     let end = end_at(text, at + 14, middle);

@@ -11,7 +11,7 @@ ghost use Rattle.layout.specs.Parts.{Sized};
 use classification::{Classified, classify};
 use layout::used;
 use std::io;
-use test_cases::{end_at, fill, least, long_at, read_full, say, say_checksum, say_refused};
+use test_cases::{end_at, fill, long_at, read_full, say, say_checksum, say_refused};
 
 // Writes the counts of pairs and links, and the checksum of the store's used part.
 fn say_classified(rt: &impl Print, b: &[u8], counts: Classified, store: &[u8]) -> io::Result<()>
@@ -44,8 +44,8 @@ fn run_case(
 {
     let start = at + 10;
     let end = end_at(text, at, start);
-    let s = least(long_at(text, at + 2), store.len());
-    let w = least(long_at(text, at + 6), work.len());
+    let s = long_at(text, at + 2).min(store.len());
+    let w = long_at(text, at + 6).min(work.len());
     fill(work, 90);
     run(rt, &text[start..end], &mut store[..s], &mut work[..w])?;
     say_checksum(rt, b" store ", store)?;

@@ -11,7 +11,7 @@ ghost use Rattle.std.specs.Prelude.{◌+◌, ◌≤◌, ◌<◌, ◌≡◌, leng
 
 use call_answers::run;
 use std::io;
-use test_cases::{end_at, fill, least, long_at, read_full, say_checksum, say_digits, short_at};
+use test_cases::{end_at, fill, long_at, read_full, say_checksum, say_digits, short_at};
 
 // The bytes of a step.
 const STEP: usize = 26;
@@ -21,7 +21,7 @@ fn start_at(text: &[u8], at: usize) -> usize
     requires { at + 1 < length text.now }
     ensures { result ≤ length text.now }
 {
-    least(short_at(text, at), text.len())
+    short_at(text, at).min(text.len())
 }
 
 // Runs the call of a step with its two lists.
@@ -57,7 +57,7 @@ fn run_lists(
 
 // Writes the front of the list and the checksums of the whole buffers: what a call must not change shows there.
 fn say_buffers(rt: &impl Print, store: &[u8], work: &[u8], list: &[u8]) -> io::Result<()> {
-    let shown = least(32, list.len());
+    let shown = list.len().min(32);
     rt.write_all(b" front ")?;
     say_digits(rt, &list[..shown])?;
     say_checksum(rt, b" store ", store)?;
@@ -78,9 +78,9 @@ fn run_call(
 ) -> io::Result<()>
     requires { at + 26 ≤ length text.now }
 {
-    let t = least(short_at(text, at + 12), list.len());
-    let s = least(long_at(text, at + 14), store.len());
-    let w = least(long_at(text, at + 18), work.len());
+    let t = short_at(text, at + 12).min(list.len());
+    let s = long_at(text, at + 14).min(store.len());
+    let w = long_at(text, at + 18).min(work.len());
     fill(work, 90);
     fill(list, 195);
     run_lists(
@@ -100,8 +100,8 @@ fn run_fill(text: &[u8], at: usize, store: &mut [u8])
     requires { at + 26 ≤ length text.now }
 {
     let byte = short_at(text, at + 2) % 256;
-    let start = least(long_at(text, at + 14), store.len());
-    let end = least(start + long_at(text, at + 18), store.len());
+    let start = long_at(text, at + 14).min(store.len());
+    let end = (start + long_at(text, at + 18)).min(store.len());
     fill(&mut store[start..end], byte as u8);
 }
 
@@ -152,26 +152,7 @@ fn run_step(
     }
 }
 
-// Runs the steps up to a byte of the input, one after the other.
-fn run_steps(
-    rt: &impl Print,
-    text: &[u8],
-    end: usize,
-    store: &mut [u8],
-    work: &mut [u8],
-    list: &mut [u8],
-) -> io::Result<()>
-    requires { end ≤ length text.now }
-{
-    let mut at = 2;
-    while at + STEP <= end {
-        run_step(rt, text, at, store, work, list)?;
-        at += STEP;
-    }
-    Ok(())
-}
-
-// Runs all the steps.
+// Runs the steps one after the other, as many as the input has whole.
 fn run_all(
     rt: &impl Print,
     text: &[u8],
@@ -182,8 +163,11 @@ fn run_all(
     if text.len() < 2 {
         return Ok(());
     }
-    let end = least(2 + STEP * short_at(text, 0), text.len());
-    run_steps(rt, text, end, store, work, list)
+    let steps = short_at(text, 0).min((text.len() - 2) / STEP);
+    for k in 0..steps {
+        run_step(rt, text, 2 + STEP * k, store, work, list)?;
+    }
+    Ok(())
 }
 
 fn main(rt: HostRuntime) -> io::Result<()> {

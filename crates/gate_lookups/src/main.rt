@@ -6,7 +6,7 @@
 ghost use Rattle.std.specs.Prelude.{◌+◌, ◌≤◌, ◌<◌, length, IfOk};
 
 use std::io;
-use test_cases::{end_at, fill, least, read_full, say, say_digits, say_refused, short_at};
+use test_cases::{end_at, fill, read_full, say, say_digits, say_refused, short_at};
 
 // Writes a space and bytes, and ends the line.
 fn say_bytes(rt: &impl Print, bytes: &[u8]) -> io::Result<()> {
@@ -80,7 +80,7 @@ fn run_case(rt: &impl Print, text: &[u8], at: usize, list: &mut [u8]) -> io::Res
     let call = short_at(text, at);
     let c = short_at(text, at + 2);
     let d = short_at(text, at + 4);
-    let long = least(short_at(text, at + 6), list.len());
+    let long = short_at(text, at + 6).min(list.len());
     let start = at + 12;
     let middle = end_at(text, at + 8, start);
     let end = end_at(text, at + 10, middle);

@@ -8,7 +8,7 @@ ghost use Rattle.std.specs.Prelude.{◌+◌, ◌≤◌, ◌<◌, length, IfOk};
 use call_lists::Fault;
 use call_lists::requests::{ENTRIES, LIST};
 use std::io;
-use test_cases::{end_at, fill, least, read_full, say, say_checksum, short_at};
+use test_cases::{end_at, fill, read_full, say, say_checksum, short_at};
 
 // The bytes of a case's numbers.
 const CASE: usize = 12;
@@ -85,12 +85,12 @@ fn run(
     bytes: usize,
 ) -> io::Result<()> {
     let mut answers = [99usize; 390];
-    let n = least(numbers, 390);
-    let t = least(bytes, lists.len());
+    let n = numbers.min(390);
+    let t = bytes.min(lists.len());
     let carried = call_lists::carry_out(b, calls, store, work, &mut lists[..t], &mut answers[..n]);
     let count = say_carried(rt, carried)?;
     rt.write_all(b"\n")?;
-    say_calls(rt, lists, &answers, least(count, SHOWN - 1) + 1)
+    say_calls(rt, lists, &answers, count.min(SHOWN - 1) + 1)
 }
 
 // Runs the case at a byte of the input, with the buffers filled afresh, and says where the next one starts.
@@ -105,8 +105,8 @@ fn run_case(
     requires { at + 12 ≤ length text.now }
     ensures { IfOk result (λ end. (at < end) × (end ≤ length text.now)) }
 {
-    let s = least(short_at(text, at), store.len());
-    let w = least(short_at(text, at + 2), work.len());
+    let s = short_at(text, at).min(store.len());
+    let w = short_at(text, at + 2).min(work.len());
     let bytes = short_at(text, at + 4);
     let numbers = short_at(text, at + 6);
     let start = at + CASE;

@@ -28,19 +28,12 @@ pub fn long_at(text: &[u8], at: usize) -> usize
     short_at(text, at) + 65536 * short_at(text, at + 2)
 }
 
-// The lesser of two numbers.
-pub fn least(a: usize, b: usize) -> usize
-    ensures { (result ≤ b) × (result ≡ min a b) }
-{
-    if a < b { a } else { b }
-}
-
 // Where a part of the input ends that starts at a byte, by the number of its bytes at another byte: with the input, where that is shorter.
 pub fn end_at(text: &[u8], at: usize, start: usize) -> usize
     requires { (at + 1 < length text.now) × (start ≤ length text.now) }
     ensures { (start ≤ result) × (result ≤ length text.now) }
 {
-    least(start + short_at(text, at), text.len())
+    (start + short_at(text, at)).min(text.len())
 }
 
 // Fills a buffer with one byte, so that what a call writes shows.

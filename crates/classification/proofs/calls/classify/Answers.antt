@@ -11,10 +11,6 @@ use Rattle.classification.proofs.Checks.{refused_catalogue}
 use Rattle.classification.proofs.Answers.{ends_refused}
 use Rattle.classification.proofs.calls.classify.Goals as goal
 
-pub classify_checked-requires : goal.classify_checked-requires
-classify_checked-requires c =
-    sym c.check.ensures ∙ ap outcome_of c.in_ok-check.was
-
 pub returns-in_err-check : goal.returns-in_err-check
 returns-in_err-check c =
     let q = c.args in

@@ -21,33 +21,21 @@ pub overflow_mul-pairs_at : goal.overflow_mul-pairs_at
 unfolding table_length
 overflow_mul-pairs_at c =
     let shape = c.of-s in
-    let b = c.args.b.now in
-    let store = c.args.store.now in
-    let t = table_length shape.result in
     let limits = shape-limits (shaped c.requires shape.ensures) in
-    let parts = part_sizes b store shape.result shape.ensures c.requires.well_formed c.requires.store_long in
     omega (arith, limits.table_limit)
 
 pub overflow_add-links_at : goal.overflow_add-links_at
 unfolding table_length
 overflow_add-links_at c =
     let shape = c.of-s in
-    let b = c.args.b.now in
-    let store = c.args.store.now in
-    let t = table_length shape.result in
     let limits = shape-limits (shaped c.requires shape.ensures) in
-    let parts = part_sizes b store shape.result shape.ensures c.requires.well_formed c.requires.store_long in
     omega (arith, limits.table_limit)
 
 pub slice_bounds-axioms-end : goal.slice_bounds-axioms-end
 unfolding table_length
 slice_bounds-axioms-end c =
     let shape = c.of-s in
-    let b = c.args.b.now in
-    let store = c.args.store.now in
-    let t = table_length shape.result in
     let limits = shape-limits (shaped c.requires shape.ensures) in
-    let parts = part_sizes b store shape.result shape.ensures c.requires.well_formed c.requires.store_long in
     let zeros = c.zeros-axioms in
     omega (arith, zeros.ensures.long, limits.table_limit)
 
@@ -55,11 +43,8 @@ pub slice_bounds-put_axioms-end : goal.slice_bounds-put_axioms-end
 unfolding table_length
 slice_bounds-put_axioms-end c =
     let shape = c.of-s in
-    let b = c.args.b.now in
-    let store = c.args.store.now in
     let t = table_length shape.result in
     let limits = shape-limits (shaped c.requires shape.ensures) in
-    let parts = part_sizes b store shape.result shape.ensures c.requires.well_formed c.requires.store_long in
     let zeros = c.zeros-axioms in
     prefix_long t 32768 zeros.result zeros.ensures.long limits.table_limit
 
@@ -79,11 +64,7 @@ pub slice_bounds-axioms-end-2 : goal.slice_bounds-axioms-end-2
 unfolding table_length
 slice_bounds-axioms-end-2 c =
     let shape = c.of-s in
-    let b = c.args.b.now in
-    let store = c.args.store.now in
     let t = table_length shape.result in
-    let limits = shape-limits (shaped c.requires shape.ensures) in
-    let parts = part_sizes b store shape.result shape.ensures c.requires.well_formed c.requires.store_long in
     let zeros = c.zeros-axioms in
     let put = c.put_axioms in
     omega (arith, put.ensures.rows_long, length-append put.new.table (drop t zeros.result))
@@ -92,11 +73,8 @@ pub slice_bounds-close-end : goal.slice_bounds-close-end
 unfolding table_length
 slice_bounds-close-end c =
     let shape = c.of-s in
-    let b = c.args.b.now in
-    let store = c.args.store.now in
     let t = table_length shape.result in
     let limits = shape-limits (shaped c.requires shape.ensures) in
-    let parts = part_sizes b store shape.result shape.ensures c.requires.well_formed c.requires.store_long in
     let zeros = c.zeros-axioms in
     let put = c.put_axioms in
     let same : take t (put.new.table ++ drop t zeros.result) ≡ put.new.table = front_of t 32768 put.new.table zeros.result put.auto.table zeros.ensures.long limits.table_limit in
@@ -108,8 +86,6 @@ slice_bounds-close-count c =
     let shape = c.of-s in
     let b = c.args.b.now in
     let store = c.args.store.now in
-    let t = table_length shape.result in
-    let limits = shape-limits (shaped c.requires shape.ensures) in
     let parts = part_sizes b store shape.result shape.ensures c.requires.well_formed c.requires.store_long in
     omega (arith, parts.whole)
 
@@ -119,8 +95,6 @@ slice_bounds-close-start c =
     let shape = c.of-s in
     let b = c.args.b.now in
     let store = c.args.store.now in
-    let t = table_length shape.result in
-    let limits = shape-limits (shaped c.requires shape.ensures) in
     let parts = part_sizes b store shape.result shape.ensures c.requires.well_formed c.requires.store_long in
     omega (arith, parts.whole)
 
@@ -154,9 +128,7 @@ slice_bounds-count-end c =
     let b = c.args.b.now in
     let store = c.args.store.now in
     let t = table_length shape.result in
-    let limits = shape-limits (shaped c.requires shape.ensures) in
     let parts = part_sizes b store shape.result shape.ensures c.requires.well_formed c.requires.store_long in
-    let zeros = c.zeros-axioms in
     let put = c.put_axioms in
     let closed = c.close in
     let long : length (put_mid t (length store - t) put.new.store closed.new.set) ≡ length store = same_len_mid t (length store - t) put.new.store closed.new.set closed.auto.set ∙ put.auto.store in
@@ -169,34 +141,10 @@ count-pairs-requires c =
     let b = c.args.b.now in
     let store = c.args.store.now in
     let t = table_length shape.result in
-    let limits = shape-limits (shaped c.requires shape.ensures) in
     let parts = part_sizes b store shape.result shape.ensures c.requires.well_formed c.requires.store_long in
-    let zeros = c.zeros-axioms in
     let put = c.put_axioms in
     let closed = c.close in
     omega (arith, parts.table_limit, length-take ((t + t) - t) (drop t (put_mid t (length store - t) put.new.store closed.new.set)))
-
-pub slice_bounds-count-count-2 : goal.slice_bounds-count-count-2
-unfolding table_length
-slice_bounds-count-count-2 c =
-    let shape = c.of-s in
-    let b = c.args.b.now in
-    let store = c.args.store.now in
-    let t = table_length shape.result in
-    let limits = shape-limits (shaped c.requires shape.ensures) in
-    let parts = part_sizes b store shape.result shape.ensures c.requires.well_formed c.requires.store_long in
-    omega (arith, parts.whole, parts.half)
-
-pub slice_bounds-count-start-2 : goal.slice_bounds-count-start-2
-unfolding table_length
-slice_bounds-count-start-2 c =
-    let shape = c.of-s in
-    let b = c.args.b.now in
-    let store = c.args.store.now in
-    let t = table_length shape.result in
-    let limits = shape-limits (shaped c.requires shape.ensures) in
-    let parts = part_sizes b store shape.result shape.ensures c.requires.well_formed c.requires.store_long in
-    omega (arith, parts.whole, parts.half)
 
 pub count-links-requires : goal.count-links-requires
 unfolding table_length
@@ -205,30 +153,10 @@ count-links-requires c =
     let b = c.args.b.now in
     let store = c.args.store.now in
     let t = table_length shape.result in
-    let limits = shape-limits (shaped c.requires shape.ensures) in
     let parts = part_sizes b store shape.result shape.ensures c.requires.well_formed c.requires.store_long in
-    let zeros = c.zeros-axioms in
     let put = c.put_axioms in
     let closed = c.close in
     omega (arith, parts.limit, length-take (length store - (t + t)) (drop (t + t) (put_mid t (length store - t) put.new.store closed.new.set)))
-
-pub shape_of-store : goal.shape_of-store
-unfolding table_length
-shape_of-store c =
-    let shape = c.of-s in
-    let b = c.args.b.now in
-    let store = c.args.store.now in
-    let t = table_length shape.result in
-    let limits = shape-limits (shaped c.requires shape.ensures) in
-    let parts = part_sizes b store shape.result shape.ensures c.requires.well_formed c.requires.store_long in
-    let zeros = c.zeros-axioms in
-    let put = c.put_axioms in
-    let closed = c.close in
-    same_len_mid t (length store - t) put.new.store closed.new.set closed.auto.set ∙ put.auto.store
-
-pub shape_of-work : goal.shape_of-work
-shape_of-work c =
-    c.close.auto.work
 
 pub returns : goal.returns
 unfolding table_length
