@@ -8,5 +8,6 @@ pub mod Places
 pub mod RowParts
 pub mod Unions
 pub mod Walks
+pub mod Searches
 pub mod Puts
 pub mod Fronts
