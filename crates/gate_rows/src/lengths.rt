@@ -110,7 +110,7 @@ fn say_if(rt: &impl Print, shown: bool, n: usize) -> io::Result<()> {
     Ok(())
 }
 
-// The set bits, found by `next` one after the other: each if it is to be shown, how many there are, and their checksum.
+// The set bits, found by `marked` one after the other: each if it is to be shown, how many there are, and their checksum.
 fn say_walk(rt: &impl Print, row: &[u8], shown: bool) -> io::Result<()>
     requires { length row.now ≤ 1048576 }
 {

@@ -1,4 +1,4 @@
-// What programs share that run the cases of their input: the input's numbers, the lesser of two, the ends of a case's parts, buffers filled
+// What programs share that run the cases of their input: the input's numbers, the ends of a case's parts, buffers filled
 // before a call, and answers in words, numbers and checksums.
 #![tactic(auto)]
 
